@@ -1,0 +1,6 @@
+use native.Mathlib.Omega.{arith}
+use Rattle.cost.proofs.Same.{same-summed}
+use Rattle.cost.proofs.SummedCost.zero.Needs as need
+
+pub returns : need.returns
+returns c = same-summed (omega arith)

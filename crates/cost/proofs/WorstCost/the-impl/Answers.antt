@@ -1,0 +1,17 @@
+use mathlib.Core.Path.{ap}
+use native.Mathlib.Omega.{arith}
+use Rattle.std.proofs.shelf.Tests.{leb-true, leb-false, le-leb}
+use Rattle.cost.specs.Kinds.{worst-of}
+use Rattle.cost.proofs.WorstCost.the-impl.Needs as need
+
+pub lawful-law : need.lawful-law
+lawful-law = record {
+  total = λ x y h. le-leb _ _ (omega (arith, leb-false _ _ h));
+  transitive = λ x y z h k. le-leb _ _ (omega (arith, leb-true _ _ h, leb-true _ _ k));
+  antisymmetric = λ x y h k. ap worst-of (omega (arith, leb-true _ _ h, leb-true _ _ k));
+  associative = λ x y z. ap worst-of (omega arith);
+  zero-left = λ x. ap worst-of (omega arith);
+  zero-right = λ x. ap worst-of (omega arith);
+  grows-left = λ x y z h. le-leb _ _ (omega (arith, leb-true _ _ h));
+  grows-right = λ x y z h. le-leb _ _ (omega (arith, leb-true _ _ h));
+}

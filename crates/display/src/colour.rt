@@ -1,0 +1,84 @@
+// Levels are 0 to 15; a colour is 256 × red + 16 × green + blue; a target is three bytes.
+ghost use mathlib.Core.Path.{_≡_};
+ghost use Prim.Native.Nat.{_<_, _≤_};
+ghost use Rattle.display.specs.Colours.{blue-of, colour-of, error-of, green-of, level-of, levels-of, red-of, squared};
+
+// A wanted colour, as it was drawn.
+#[derive(Clone, Copy)]
+pub struct Target {
+    pub red: u8,
+    pub green: u8,
+    pub blue: u8,
+}
+
+// A wanted colour, as a screen can show it.
+#[derive(Clone, Copy)]
+pub struct Levels {
+    pub red: u8,
+    pub green: u8,
+    pub blue: u8,
+}
+
+pub fn level(byte: u8) -> u8
+    ensures { λ r. ⌜ r ≡ level-of byte ⌝ }
+{
+    byte / 16
+}
+
+impl Target {
+    pub fn levels(self) -> Levels
+        ensures { λ r. ⌜ r ≡ levels-of self ⌝ }
+    {
+        Levels {
+            red: level(self.red),
+            green: level(self.green),
+            blue: level(self.blue),
+        }
+    }
+}
+
+impl Levels {
+    // The error of a pixel that shows the colour; at most 675 where these are levels and that is a colour.
+    pub fn error(self, colour: u16) -> u32
+        ensures value { λ r. ⌜ r ≡ error-of self colour ⌝ }
+        ensures bound { λ r. ⌜ (self .red < 16 → self .green < 16 → self .blue < 16 → colour < 4096 → r ≤ 675) ⌝ }
+    {
+        square(self.red, red(colour))
+            + square(self.green, green(colour))
+            + square(self.blue, blue(colour))
+    }
+}
+
+fn square(a: u8, b: u8) -> u32
+    ensures value { λ r. ⌜ r ≡ squared a b ⌝ }
+    ensures fits { λ r. ⌜ r ≤ 65025 ⌝ }
+    ensures bound { λ r. ⌜ (a < 16 → b < 16 → r ≤ 225) ⌝ }
+{
+    let difference = i32::from(a) - i32::from(b);
+    (difference * difference) as u32
+}
+
+pub(crate) fn red(colour: u16) -> u8
+    ensures { λ r. ⌜ r ≡ red-of colour ⌝ }
+{
+    (colour / 256) as u8
+}
+
+pub(crate) fn green(colour: u16) -> u8
+    ensures { λ r. ⌜ r ≡ green-of colour ⌝ }
+{
+    (colour / 16 % 16) as u8
+}
+
+pub(crate) fn blue(colour: u16) -> u8
+    ensures { λ r. ⌜ r ≡ blue-of colour ⌝ }
+{
+    (colour % 16) as u8
+}
+
+pub(crate) fn compose(red: u8, green: u8, blue: u8) -> u16
+    requires { ⌜ red < 16 ⌝ ∗ ⌜ green < 16 ⌝ ∗ ⌜ blue < 16 ⌝ }
+    ensures { λ r. ⌜ r ≡ colour-of red green blue ⌝ }
+{
+    256 * u16::from(red) + 16 * u16::from(green) + u16::from(blue)
+}

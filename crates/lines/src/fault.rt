@@ -1,0 +1,48 @@
+// Refusals.
+ghost use mathlib.Core.Path.{_≡_};
+ghost use Rattle.lines.specs.Faults.{layer-of, number-of, place-of};
+
+// The layer that a refusal names.
+#[derive(Clone, Copy)]
+pub enum Layer {
+    Trellis,
+}
+
+// Why a call was refused. The pixel is counted from 0; where no single pixel is at fault, it is how many the line has.
+#[derive(Clone, Copy)]
+pub enum Fault {
+    TargetBytes { pixel: usize },
+    UnknownCode { pixel: usize },
+    ShortBuffer { pixel: usize },
+    NoStep { pixel: usize },
+}
+
+impl Fault {
+    pub fn number(self) -> u8
+        ensures { λ r. ⌜ r ≡ number-of self ⌝ }
+    {
+        match self {
+            Fault::TargetBytes { pixel: _ } => 6,
+            Fault::UnknownCode { pixel: _ } => 7,
+            Fault::ShortBuffer { pixel: _ } => 9,
+            Fault::NoStep { pixel: _ } => 10,
+        }
+    }
+
+    pub fn layer(self) -> Layer
+        ensures { λ r. ⌜ r ≡ layer-of self ⌝ }
+    {
+        Layer::Trellis
+    }
+
+    pub fn pixel(self) -> usize
+        ensures { λ r. ⌜ r ≡ place-of self ⌝ }
+    {
+        match self {
+            Fault::TargetBytes { pixel } => pixel,
+            Fault::UnknownCode { pixel } => pixel,
+            Fault::ShortBuffer { pixel } => pixel,
+            Fault::NoStep { pixel } => pixel,
+        }
+    }
+}
