@@ -5,10 +5,14 @@ ghost use Rattle.cost.specs.Kinds.{pair as paired, summed as sums, worst as wo
 
 mod pair;
 mod summed;
+mod text;
 mod worst;
 
 pub use pair::Pair;
 pub use summed::Summed;
+pub use text::PairDisplay;
+pub use text::SummedDisplay;
+pub use text::WorstDisplay;
 pub use worst::Worst;
 
 // Every question is answered from the arguments alone, and none is refused.
