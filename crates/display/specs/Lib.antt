@@ -1,3 +1,4 @@
 pub mod Colours
 pub mod Machine
 pub mod Displays
+pub mod Texts

@@ -1,7 +1,10 @@
 // Levels are 0 to 15; a colour is 256 × red + 16 × green + blue; a target is three bytes.
 ghost use mathlib.Core.Path.{_≡_};
 ghost use Prim.Native.Nat.{_<_, _≤_};
+ghost use Rattle.std.specs.declared.option.Option.the-variants.{Some};
 ghost use Rattle.display.specs.Colours.{blue-of, colour-of, error-of, green-of, level-of, levels-of, red-of, squared};
+ghost use Rattle.display.specs.Texts.{colour-text, digit-of};
+use std::fmt;
 
 // A wanted colour, as it was drawn.
 #[derive(Clone, Copy)]
@@ -18,6 +21,10 @@ pub struct Levels {
     pub green: u8,
     pub blue: u8,
 }
+
+// A colour by its number. Its text is three small hexadecimal digits: red, green, blue.
+#[derive(Clone, Copy)]
+pub struct Colour(pub u16);
 
 pub fn level(byte: u8) -> u8
     ensures { λ r. ⌜ r ≡ level-of byte ⌝ }
@@ -81,4 +88,26 @@ pub(crate) fn compose(red: u8, green: u8, blue: u8) -> u16
     ensures { λ r. ⌜ r ≡ colour-of red green blue ⌝ }
 {
     256 * u16::from(red) + 16 * u16::from(green) + u16::from(blue)
+}
+
+fn digit(level: u8) -> char
+    requires { ⌜ level < 16 ⌝ }
+    ensures { λ r. ⌜ r ≡ digit-of level ⌝ }
+{
+    match level {
+        0..=9 => char::from(b'0' + level),
+        _ => char::from(b'a' + (level - 10)),
+    }
+}
+
+pub impl fmt::Display for Colour as ColourDisplay {
+    ghost shown = { λ colour. Some (colour-text colour) };
+
+    fn fmt<W: fmt::Write>(&self, f: &mut fmt::Formatter<W>) -> fmt::Result {
+        let colour = self.0 % 4096;
+        let red = digit(red(colour));
+        let green = digit(green(colour));
+        let blue = digit(blue(colour));
+        write!(f, "{red}{green}{blue}")
+    }
 }

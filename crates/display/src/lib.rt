@@ -5,6 +5,8 @@ mod half_brite;
 mod ham;
 mod machine;
 
+pub use colour::Colour;
+pub use colour::ColourDisplay;
 pub use colour::Levels;
 pub use colour::Target;
 pub use colour::level;
