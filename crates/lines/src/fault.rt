@@ -1,6 +1,9 @@
 // Refusals.
 ghost use mathlib.Core.Path.{_≡_};
+ghost use Rattle.std.specs.declared.option.Option.the-variants.{Some};
 ghost use Rattle.lines.specs.Faults.{layer-of, number-of, place-of};
+ghost use Rattle.lines.specs.Texts.{fault-text, layer-text};
+use std::fmt;
 
 // The layer that a refusal names.
 #[derive(Clone, Copy)]
@@ -44,5 +47,26 @@ impl Fault {
             Fault::ShortBuffer { pixel } => pixel,
             Fault::NoStep { pixel } => pixel,
         }
+    }
+}
+
+pub impl fmt::Display for Layer as LayerDisplay {
+    ghost shown = { λ layer. Some (layer-text layer) };
+
+    fn fmt<W: fmt::Write>(&self, f: &mut fmt::Formatter<W>) -> fmt::Result {
+        match self {
+            Layer::Trellis => write!(f, "trellis"),
+        }
+    }
+}
+
+pub impl fmt::Display for Fault as FaultDisplay {
+    ghost shown = { λ fault. Some (fault-text fault) };
+
+    fn fmt<W: fmt::Write>(&self, f: &mut fmt::Formatter<W>) -> fmt::Result {
+        let number = self.number();
+        let layer = self.layer();
+        let pixel = self.pixel();
+        write!(f, "fault {number} {layer} pixel {pixel}")
     }
 }

@@ -7,6 +7,8 @@ mod walk;
 
 pub use check::checks_stand;
 pub use fault::Fault;
+pub use fault::FaultDisplay;
 pub use fault::Layer;
+pub use fault::LayerDisplay;
 pub use judging::judge;
 pub use showing::show;
