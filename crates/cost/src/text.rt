@@ -10,8 +10,8 @@ pub impl fmt::Display for Summed as SummedDisplay {
     ghost shown = { λ x. Some (summed-text x) };
 
     fn fmt<W: fmt::Write>(&self, f: &mut fmt::Formatter<W>) -> fmt::Result {
-        let error = self.error;
-        write!(f, "{error}")
+        let sum = self.error;
+        write!(f, "{sum}")
     }
 }
 
@@ -19,8 +19,8 @@ pub impl fmt::Display for Worst as WorstDisplay {
     ghost shown = { λ x. Some (worst-text x) };
 
     fn fmt<W: fmt::Write>(&self, f: &mut fmt::Formatter<W>) -> fmt::Result {
-        let error = self.error;
-        write!(f, "{error}")
+        let worst = self.error;
+        write!(f, "{worst}")
     }
 }
 

@@ -61,7 +61,7 @@ pub record Worked-values : Type 0 where
   pub half : Shows half-brite 0 37 1873
   -- a sum that passes top takes its count with it
   pub past-top : pair .join (pair-of top 0) (pair-of 1 0) ≡ pair-of top top
-  -- so two costs keep their order where one of them passes top, and do not change it
+  -- so joining the same cost to two others keeps their order, at top too
   pub before : AtMost pair (pair-of (top - 1) 5) (pair-of top 0)
   pub after : AtMost pair (pair .join (pair-of (top - 1) 5) (pair-of 1 0)) (pair .join (pair-of top 0) (pair-of 1 0))
   -- 55 23 shows 070 077 and costs 64
