@@ -39,7 +39,7 @@ worst = record {
 abbrev pub pair-of : ℕ → ℕ → Pair
 pair-of error count = record { error = min error top; count = min count top; bounded = (omega arith, omega arith) }
 
--- where the exact sum of errors passes top, both halves become top
+-- both halves stop together: an exact error above top makes each of them top
 abbrev pub joined-pair : Pair → Pair → Pair
 joined-pair x y =
     pair-of (x .error + y .error) (cond (leb (x .error + y .error) top) (x .count + y .count) top)

@@ -1,4 +1,4 @@
-// Levels are 0 to 15; a colour is 256 × red + 16 × green + blue; a target is three bytes.
+// Levels run from 0 to 15, and three of them make a colour; a target is what was drawn, in bytes.
 ghost use mathlib.Core.Path.{_≡_};
 ghost use Prim.Native.Nat.{_<_, _≤_};
 ghost use Rattle.std.specs.declared.option.Option.the-variants.{Some};

@@ -30,7 +30,7 @@ abbrev pub left : {A : Type 0} → Option Fault → A → A → A
 left None new old = new
 left (Some fault) new old = old
 
--- 6: the target bytes are not three for each code
+-- 6: there are not just three target bytes to a code
 abbrev pub target-bytes : List ℕ → List ℕ → Option Fault
 target-bytes codes bytes = cond (eqb (length bytes) (3 * length codes)) None (Some (TargetBytes (length codes)))
 

@@ -35,7 +35,7 @@ preview-of m codes = preview-from m (m .start) codes
 abbrev pub price-at : {C : Type 0} → Meaning → Kind C → Levels → ℕ → ℕ → C
 price-at m k wanted c t = k .price (error-of wanted (m .shown t)) (m .holds c)
 
--- a cost joined with the price of each pixel, from left to right
+-- a cost, and then pixel by pixel the price joined to it on the right
 abbrev pub cost-from : {C : Type 0} → Meaning → Kind C → C → ℕ → List ℕ → List Target → C
 cost-from m k sum s [] targets = sum
 cost-from m k sum s (c ∷ cs) [] = sum

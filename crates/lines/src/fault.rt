@@ -9,15 +9,24 @@ use std::fmt;
 #[derive(Clone, Copy)]
 pub enum Layer {
     Trellis,
+    Plate,
+    File,
 }
 
 // Why a call was refused. The pixel is counted from 0; where no single pixel is at fault, it is how many the line has.
 #[derive(Clone, Copy)]
 pub enum Fault {
+    PlateFull,
+    BadWidth,
+    TooFewCells { pixel: usize },
+    LineFull { pixel: usize },
+    LineEmpty,
     TargetBytes { pixel: usize },
     UnknownCode { pixel: usize },
+    NoWay { pixel: usize },
     ShortBuffer { pixel: usize },
     NoStep { pixel: usize },
+    BrokenCells { pixel: usize },
 }
 
 impl Fault {
@@ -25,10 +34,17 @@ impl Fault {
         ensures { λ r. ⌜ r ≡ number-of self ⌝ }
     {
         match self {
+            Fault::PlateFull => 1,
+            Fault::BadWidth => 2,
+            Fault::TooFewCells { pixel: _ } => 3,
+            Fault::LineFull { pixel: _ } => 4,
+            Fault::LineEmpty => 5,
             Fault::TargetBytes { pixel: _ } => 6,
             Fault::UnknownCode { pixel: _ } => 7,
+            Fault::NoWay { pixel: _ } => 8,
             Fault::ShortBuffer { pixel: _ } => 9,
             Fault::NoStep { pixel: _ } => 10,
+            Fault::BrokenCells { pixel: _ } => 11,
         }
     }
 
@@ -42,10 +58,17 @@ impl Fault {
         ensures { λ r. ⌜ r ≡ place-of self ⌝ }
     {
         match self {
+            Fault::PlateFull => 0,
+            Fault::BadWidth => 0,
+            Fault::TooFewCells { pixel } => pixel,
+            Fault::LineFull { pixel } => pixel,
+            Fault::LineEmpty => 0,
             Fault::TargetBytes { pixel } => pixel,
             Fault::UnknownCode { pixel } => pixel,
+            Fault::NoWay { pixel } => pixel,
             Fault::ShortBuffer { pixel } => pixel,
             Fault::NoStep { pixel } => pixel,
+            Fault::BrokenCells { pixel } => pixel,
         }
     }
 }
@@ -56,6 +79,8 @@ pub impl fmt::Display for Layer as LayerDisplay {
     fn fmt<W: fmt::Write>(&self, f: &mut fmt::Formatter<W>) -> fmt::Result {
         match self {
             Layer::Trellis => write!(f, "trellis"),
+            Layer::Plate => write!(f, "plate"),
+            Layer::File => write!(f, "file"),
         }
     }
 }

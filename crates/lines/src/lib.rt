@@ -12,3 +12,4 @@ pub use fault::Layer;
 pub use fault::LayerDisplay;
 pub use judging::judge;
 pub use showing::show;
+pub use walk::pixel_price;
