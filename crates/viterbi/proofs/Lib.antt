@@ -1,0 +1,4 @@
+pub mod Survivor
+pub mod Picking
+pub mod Lines
+pub mod Loops
