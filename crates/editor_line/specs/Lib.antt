@@ -1,3 +1,4 @@
 pub mod Nearest
 pub mod Costs
 pub mod Texts
+pub mod Cheapest

@@ -1,9 +1,16 @@
-// An editor's line of two wanted colours: what the nearest colours show and cost, what other codes show and cost, and two
-// code lines that are refused.
+// An editor's line of two wanted colours: what the nearest colours show and cost, what other codes show and cost, two code
+// lines that are refused, and the cheapest line, found by the calls.
+mod cheapest;
 mod costs;
 mod nearest;
 mod text;
 
+ghost use Prim.Native.Nat.{_≤_};
+ghost use lib.ListN.{length};
+use cheapest::FoundLine;
+use cheapest::line_record;
+use cheapest::read_record;
+use cost::SummedDisplay;
 use costs::CostsDisplay;
 use costs::costs_of_line;
 use display::DisplayMachine;
@@ -62,7 +69,40 @@ fn print_line<M: DisplayMachine>(
     print_costs(rt, machine, codes, targets)
 }
 
-fn run(rt: &LibcRuntime) -> io::Result<()> {
+// The codes of a line, its preview and its cost, and what its plate came to.
+fn print_found(rt: &LibcRuntime, found: &FoundLine) -> io::Result<()> {
+    let text = codes_text(rt.alloc(), &found.codes)?;
+    println!(rt, "{text}")?;
+    let text = preview_text(rt.alloc(), &found.preview)?;
+    println!(rt, "{text}")?;
+    let cost = found.cost;
+    println!(rt, "cost {cost}")?;
+    let lines = found.lines;
+    let total = found.total;
+    println!(rt, "lines {lines} total {total}")?;
+    let pixels = found.codes.len();
+    println!(
+        rt,
+        "no legal line of {pixels} pixels costs less by these targets"
+    )
+}
+
+// The cheapest line by the calls; or why a call was refused.
+fn print_cheapest<M: DisplayMachine>(
+    rt: &LibcRuntime,
+    machine: &M,
+    targets: &[u8],
+) -> io::Result<()>
+    requires { ⌜ length (now targets) ≤ 1920 ⌝ }
+{
+    let record = line_record(rt.alloc(), machine, targets)?;
+    match read_record(rt.alloc(), record) {
+        Ok(found) => print_found(rt, &found),
+        Err(fault) => println!(rt, "{fault}"),
+    }
+}
+
+fn print_all(rt: &LibcRuntime) -> io::Result<()> {
     let ham = Ham { registers: [0; 16] };
     println!(rt, "HAM, all registers 000")?;
     print_wanted(rt, &WANTED)?;
@@ -74,9 +114,11 @@ fn run(rt: &LibcRuntime) -> io::Result<()> {
     println!(rt, "\na code that HAM does not have")?;
     print_line(rt, &ham, &[55, 64], &WANTED)?;
     println!(rt, "\nfill mode, a colour repeated at the first pixel")?;
-    print_line(rt, &Fill { entries: [0; 16] }, &[0, 1], &WANTED)
+    print_line(rt, &Fill { entries: [0; 16] }, &[0, 1], &WANTED)?;
+    println!(rt, "\nthe cheapest line by the calls")?;
+    print_cheapest(rt, &ham, &WANTED)
 }
 
 fn main(rt: LibcRuntime) -> io::Result<()> {
-    run(&rt)
+    print_all(&rt)
 }

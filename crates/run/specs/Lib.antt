@@ -1,0 +1,4 @@
+pub mod Account
+pub mod Rivals
+pub mod Promise
+pub mod Agreement

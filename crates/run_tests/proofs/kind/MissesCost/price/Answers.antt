@@ -1,0 +1,6 @@
+use native.Mathlib.Omega.{arith}
+use Rattle.run_tests.proofs.Same.{same-misses}
+use Rattle.run_tests.proofs.kind.MissesCost.price.Needs as need
+
+pub returns : need.returns
+returns c = same-misses (grind arith)

@@ -1,0 +1,2 @@
+pub mod Fuse
+pub mod Misses

@@ -1,0 +1,11 @@
+pub mod Folds
+pub mod Indexing
+pub mod Bidding
+pub mod Writing
+pub mod Extending
+pub mod Leaving
+pub mod Reading
+pub mod Back
+pub mod Checking
+pub mod Adding
+pub mod Closing

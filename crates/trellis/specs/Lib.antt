@@ -1,0 +1,4 @@
+pub mod Stages
+pub mod Cells
+pub mod Bids
+pub mod Calls
