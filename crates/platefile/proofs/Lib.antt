@@ -1,0 +1,13 @@
+pub mod Heads
+pub mod Pieces
+pub mod Pinning
+pub mod Wording
+pub mod Pixels
+pub mod Passing
+pub mod Filling
+pub mod Starting
+pub mod Spaced
+pub mod Outputs
+pub mod Nexts
+pub mod Readers
+pub mod Followups

@@ -1,0 +1,11 @@
+pub mod Letters
+pub mod Faults
+pub mod Records
+pub mod Cutting
+pub mod Headings
+pub mod Drawing
+pub mod Drawns
+pub mod Files
+pub mod Reading
+pub mod Opening
+pub mod Texts
