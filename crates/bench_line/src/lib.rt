@@ -1,4 +1,6 @@
 // A HAM line by the calls on a plate, for a program in C to time.
+#![tactic(auto)]
+
 ghost use Rattle.std.specs.Prelude.{◌≡◌, true};
 ghost use Rattle.cost.specs.Kinds.{summed};
 ghost use Rattle.cost.specs.declared.summed.Summed.{Summed};

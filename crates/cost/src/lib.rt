@@ -1,4 +1,6 @@
 // Cost kinds: how a code line is priced, and which of two lines is cheaper.
+#![tactic(auto)]
+
 ghost use Rattle.std.specs.Prelude.{◌≡◌};
 ghost use Rattle.std.proofs.Common.{ap, arith};
 ghost use Rattle.cost.specs.Kind.{Kind, Lawful};

@@ -1,4 +1,6 @@
 // Displays: colours, the error of a pixel, and the machines that turn codes into colours.
+#![tactic(auto)]
+
 mod colour;
 mod fill;
 mod half_brite;

@@ -1,5 +1,7 @@
 // An editor's line of two wanted colours: what the nearest colours show and cost, what other codes show and cost, two code
 // lines that are refused, and the cheapest line, found by the calls.
+#![tactic(auto)]
+
 mod cheapest;
 mod costs;
 mod nearest;

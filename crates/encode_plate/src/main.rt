@@ -1,4 +1,6 @@
 // Draws the plate file that the first argument names, or the one on standard input.
+#![tactic(auto)]
+
 use plate_output::{WHOLE, print_file, read_input};
 use std::fs::File;
 use std::{env, io};

@@ -1,4 +1,6 @@
 // Tests of the calls against an encoder that tries every code line.
+#![tactic(auto)]
+
 #[cfg(test)]
 mod chance;
 #[cfg(test)]

@@ -1,4 +1,6 @@
 // Draws the plate files that the arguments name: each as `plate` prints it, and then as `encode_plate` does.
+#![tactic(auto)]
+
 #[cfg(test)]
 mod full_plate;
 

@@ -1,4 +1,6 @@
 // Code lines: show turns one back into colours, judge into a price.
+#![tactic(auto)]
+
 mod check;
 mod fault;
 mod judging;

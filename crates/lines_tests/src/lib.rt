@@ -1,4 +1,6 @@
 // Tests of displays, costs, show and judge at their edges.
+#![tactic(auto)]
+
 #[cfg(test)]
 mod costs;
 #[cfg(test)]

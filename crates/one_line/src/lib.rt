@@ -1,4 +1,6 @@
 // A line of targets without pins, drawn on a plate of its own.
+#![tactic(auto)]
+
 ghost use Rattle.std.specs.Prelude.{◌≡◌, ◌+◌, ◌*◌, ◌/◌, ◌≤◌, [], reverse, length, None};
 ghost use Rattle.lines.specs.Checks.{answer};
 ghost use Rattle.run.specs.Agreement.{OpenRight};

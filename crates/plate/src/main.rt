@@ -1,4 +1,6 @@
 // Draws the plate file that stands on standard input, within a small machine's bounds.
+#![tactic(auto)]
+
 use plate_output::{SMALL, print_file, read_input};
 
 fn run(rt: &HostRuntime) -> anyhow::Result<()> {

@@ -1,4 +1,6 @@
 // Reads and prints plate files, for the programs.
+#![tactic(auto)]
+
 mod bounds;
 mod input;
 mod output;

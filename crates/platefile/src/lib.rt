@@ -1,4 +1,6 @@
 // Plate files: their lines, drawn one after another, and the text that is printed.
+#![tactic(auto)]
+
 mod drawing;
 mod opening;
 mod pieces;

@@ -1,4 +1,6 @@
 // The records of a plate file as parts of its bytes, what stands before its lines, and its faults.
+#![tactic(auto)]
+
 mod cutting;
 mod display_kind;
 mod fault;

@@ -1,4 +1,6 @@
 // A run: a list of calls on one plate, made one after another, and the record of what each answered.
+#![tactic(auto)]
+
 mod closing;
 mod entry;
 mod running;

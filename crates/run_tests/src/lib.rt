@@ -1,5 +1,7 @@
 // Tests of runs and of the calls on a plate. The small display machine and the small cost kind stand here alone, so that
 // they show what a new machine or kind asks for: an implementation of its trait, with its laws, and nothing in another crate.
+#![tactic(auto)]
+
 mod fuse;
 #[cfg(test)]
 mod fuse_calls;

@@ -1,4 +1,6 @@
 // The trellis: columns over lent cells, and the calls on a plate that write them.
+#![tactic(auto)]
+
 mod calls;
 mod columns;
 mod plate;

@@ -1,4 +1,6 @@
 // Viterbi's recursion over the stages of a line: the cell, and what is proved of its columns.
+#![tactic(auto)]
+
 ghost use Rattle.std.specs.Prelude.{◌≡◌};
 ghost use Rattle.viterbi.specs.Columns.{blank};
 ghost use Rattle.viterbi.specs.Theorems.{ColumnsTheorem, LineTheorem};

@@ -1,4 +1,6 @@
 // Values and lines worked out by hand, as one theorem of the definitions that the other contracts are stated in.
+#![tactic(auto)]
+
 ghost use Rattle.cost.specs.Kind.{Lawful as LawfulKind};
 ghost use Rattle.display.specs.Machine.{Lawful};
 ghost use Rattle.worked.specs.Worked.{WorkedValues};

@@ -16,8 +16,8 @@ returns-in-Err g c =
     let check = new_refuses m k c.new.result c.new.ensures a.cells.now n c.in-Err.plate c.in-Err.fault c.in-Err.ensures.value in
     refused m k a.targets.now a.codes.now a.preview.now (length a.cells.now) c.in-Err.fault (first_stops (start_check m (length a.cells.now) 0 n) _ c.in-Err.fault check)
 
-pub fill-line-requires : goal.fill-line-requires
-fill-line-requires g c =
+pub fill_line-requires : goal.fill_line-requires
+fill_line-requires g c =
     let a = c.args in
     let m = g.M.DisplayMachine.meaning a.machine.now in
     let n = length a.targets.now / 3 in
@@ -25,16 +25,16 @@ fill-line-requires g c =
     let fits = (start_passed m (length a.cells.now) 0 n s.0).2 in
     record { fits = omega (arith, fits, c.start.auto.cells); opened = s.2 }
 
-pub returns-in-Err-fill-line : goal.returns-in-Err-fill-line
-returns-in-Err-fill-line g c =
+pub returns-in-Err-fill_line : goal.returns-in-Err-fill_line
+returns-in-Err-fill_line g c =
     let a = c.args in
     let m = g.M.DisplayMachine.meaning a.machine.now in
     let k = g.C.Cost.kind in
     let n = length a.targets.now / 3 in
     let s = new_opens m k c.new.result c.new.ensures a.cells.now n c.start.new.cells c.in-Ok.line c.in-Ok.ensures.value c.in-Ok.ensures.cells in
-    let stops = told (Some c.in-Err-fill-line.fault) (blocked m k [] (wanted_of a.targets.now)) tt tt c.in-Err-fill-line.ensures.value in
-    refused m k a.targets.now a.codes.now a.preview.now (length a.cells.now) c.in-Err-fill-line.fault
-    (later_says (start_check m (length a.cells.now) 0 n) _ _ s.0 (first_stops (blocked m k [] (wanted_of a.targets.now)) _ c.in-Err-fill-line.fault stops))
+    let stops = told (Some c.in-Err-fill_line.fault) (blocked m k [] (wanted_of a.targets.now)) tt tt c.in-Err-fill_line.ensures.value in
+    refused m k a.targets.now a.codes.now a.preview.now (length a.cells.now) c.in-Err-fill_line.fault
+    (later_says (start_check m (length a.cells.now) 0 n) _ _ s.0 (first_stops (blocked m k [] (wanted_of a.targets.now)) _ c.in-Err-fill_line.fault stops))
 
 pub returns-in-Ok-close : goal.returns-in-Ok-close
 returns-in-Ok-close g c =
@@ -43,11 +43,11 @@ returns-in-Ok-close g c =
     let k = g.C.Cost.kind in
     let n = length a.targets.now / 3 in
     let s = new_opens m k c.new.result c.new.ensures a.cells.now n c.start.new.cells c.in-Ok.line c.in-Ok.ensures.value c.in-Ok.ensures.cells in
-    let passes = told None (blocked m k [] (wanted_of a.targets.now)) tt tt c.in-default.ensures.value in
+    let passes = told None (blocked m k [] (wanted_of a.targets.now)) tt tt c.in_default.ensures.value in
     close_says m k a.targets.now a.codes.now a.preview.now (g.met.M.DisplayMachine.lawful a.machine.now) g.met.C.Cost.lawful
-    (length a.cells.now) c.fill-line.new.cells c.fill-line.new.line (c.fill-line.auto.cells ∙ c.start.auto.cells) s.0 passes (c.in-default.ensures.drawn passes)
+    (length a.cells.now) c.fill_line.new.cells c.fill_line.new.line (c.fill_line.auto.cells ∙ c.start.auto.cells) s.0 passes (c.in_default.ensures.drawn passes)
     c.close.new.codes c.close.new.preview c.in-Ok-close.ensures.coded c.in-Ok-close.ensures.previewed c.in-Ok-close.plate c.in-Ok-close.cost c.in-Ok-close.ensures.value
-    (c.in-default.ensures.plate ∙ s.1) c.report-report.result c.report-report.ensures
+    (c.in_default.ensures.plate ∙ s.1) c.report-report.result c.report-report.ensures
 
 pub returns-in-Err-close : goal.returns-in-Err-close
 returns-in-Err-close g c =
@@ -56,7 +56,7 @@ returns-in-Err-close g c =
     let k = g.C.Cost.kind in
     let n = length a.targets.now / 3 in
     let s = new_opens m k c.new.result c.new.ensures a.cells.now n c.start.new.cells c.in-Ok.line c.in-Ok.ensures.value c.in-Ok.ensures.cells in
-    let passes = told None (blocked m k [] (wanted_of a.targets.now)) tt tt c.in-default.ensures.value in
+    let passes = told None (blocked m k [] (wanted_of a.targets.now)) tt tt c.in_default.ensures.value in
     close_refuses m k a.targets.now a.codes.now a.preview.now (g.met.M.DisplayMachine.lawful a.machine.now) g.met.C.Cost.lawful
-    (length a.cells.now) c.fill-line.new.cells c.fill-line.new.line (c.fill-line.auto.cells ∙ c.start.auto.cells) s.0 passes (c.in-default.ensures.drawn passes)
+    (length a.cells.now) c.fill_line.new.cells c.fill_line.new.line (c.fill_line.auto.cells ∙ c.start.auto.cells) s.0 passes (c.in_default.ensures.drawn passes)
     c.close.new.codes c.close.new.preview c.in-Err-close.ensures.coded c.in-Err-close.ensures.previewed c.in-Err-close.line c.in-Err-close.fault c.in-Err-close.ensures.value

@@ -10,11 +10,11 @@ use Rattle.worked.proofs.worked_values_stand.Goals as goal
 
 pub returns : goal.returns
 returns c =
-    let hams = c.machine-laws.ensures in
-    let fills = c.machine-laws-2.ensures in
-    let sums = c.cost-laws.ensures in
-    let worsts = c.cost-laws-2.ensures in
-    let pairs = c.cost-laws-3.ensures in
+    let hams = c.machine_laws.ensures in
+    let fills = c.machine_laws-2.ensures in
+    let sums = c.cost_laws.ensures in
+    let worsts = c.cost_laws-2.ensures in
+    let pairs = c.cost_laws-3.ensures in
     record {
       level_15 = refl;
       level_16 = refl;

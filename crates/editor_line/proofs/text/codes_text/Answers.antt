@@ -8,7 +8,7 @@ pub loop-code-preserved : goal.loop-code-preserved
 loop-code-preserved c =
     let i = c.loop-code.code-index in
     let ns = c.args.codes.now in
-    c.in-ok-write.ensures.bytes
+    c.in_ok-write.ensures.bytes
     ∙ ap (λ front. front ++ (codes " " ++ decimal (get_or ns i 0))) c.loop-code.invariant
     ∙ spaced_more (codes "codes") decimal ns i (omega arith)
 

@@ -9,7 +9,7 @@ pub loop-number-preserved : goal.loop-number-preserved
 loop-number-preserved c =
     let i = c.loop-number.number-index in
     let ns = c.args.preview.now in
-    c.in-ok-write.ensures.bytes
+    c.in_ok-write.ensures.bytes
     ∙ ap (λ front. front ++ (codes " " ++ colour_text (record { 0 = get_or ns i 0 }))) c.loop-number.invariant
     ∙ spaced_more (codes "preview") (λ n. colour_text (record { 0 = n })) ns i (omega arith)
 

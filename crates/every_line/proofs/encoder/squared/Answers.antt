@@ -4,5 +4,5 @@ use Rattle.every_line.proofs.encoder.squared.Goals as goal
 
 pub returns : goal.returns
 returns c =
-    let d : c.abs-diff-difference.result ≤ 15 = omega arith in
+    let d : c.abs_diff-difference.result ≤ 15 = omega arith in
     mul-le-mul d d

@@ -11,10 +11,10 @@ loop-pixel-preserved g c =
     let sum = c.loop-pixel.sum in
     let i = c.loop-pixel.pixel in
     let code = get_or c.args.codes.now i 0 in
-    let t = c.next-state-state.result in
+    let t = c.next_state-state.result in
     c.loop-pixel.invariant
-    ∙ cost_more m k sum c.join-sum.result c.loop-pixel.state t c.args.codes.now c.args.targets.now i (omega arith) (omega (arith, c.requires)) c.next-state-state.ensures
-    (c.join-sum.ensures ∙ ap (k.join sum) (c.pixel-price.ensures ∙ ap (λ wanted. price_at m k wanted code t) c.levels.ensures))
+    ∙ cost_more m k sum c.join-sum.result c.loop-pixel.state t c.args.codes.now c.args.targets.now i (omega arith) (omega (arith, c.requires)) c.next_state-state.ensures
+    (c.join-sum.ensures ∙ ap (k.join sum) (c.pixel_price.ensures ∙ ap (λ wanted. price_at m k wanted code t) c.levels.ensures))
 
 pub returns : goal.returns
 returns g c =

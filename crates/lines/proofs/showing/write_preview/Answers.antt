@@ -12,7 +12,7 @@ loop-pixel-preserved g c =
     let s = c.loop-pixel.state in
     let inv = c.loop-pixel.invariant in
     let n = length-preview m m.start cs in
-    let next : c.next-state-state.result ≡ after_code m s (get_or cs i 0) = c.next-state-state.ensures in
+    let next : c.next_state-state.result ≡ after_code m s (get_or cs i 0) = c.next_state-state.ensures in
     let more : preview_from m s (drop i cs) ≡ m.shown (after_code m s (get_or cs i 0)) ∷ preview_from m (after_code m s (get_or cs i 0)) (drop (i + 1) cs) =
     at_drop_more (preview_from m s) cs i 0 (omega arith)
     in

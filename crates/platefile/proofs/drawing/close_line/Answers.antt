@@ -2,16 +2,16 @@ use Rattle.std.proofs.Common.{vec_items, sym, ◌∙◌}
 use Rattle.platefile.proofs.Starting.{close_draws, never_refused}
 use Rattle.platefile.proofs.drawing.close_line.Goals as goal
 
-pub returns-in-Ok-close-into : goal.returns-in-Ok-close-into
-returns-in-Ok-close-into g c pixels full =
+pub returns-in-Ok-close_into : goal.returns-in-Ok-close_into
+returns-in-Ok-close_into g c pixels full =
     let codes_long = sym c.in-Ok.codes.ok.0 ∙ c.in-Ok.ensures.made.1 in
     let preview-long = sym c.in-Ok-vec.preview.ok.0 ∙ c.in-Ok-vec.ensures.made.1 in
     close_draws (g.M.DisplayMachine.meaning c.args.machine.now) g.C.Cost.kind (g.met.M.DisplayMachine.lawful c.args.machine.now) g.met.C.Cost.lawful
     c.args.width pixels c.args.line c.args.cells.now full
     (vec_items c.in-Ok.codes) (vec_items c.in-Ok-vec.preview) codes_long preview-long
-    c.in-Ok-close-into.plate c.in-Ok-close-into.cost c.in-Ok-close-into.ensures.value
-    (vec_items c.close-into.new.codes) (vec_items c.close-into.new.preview) c.in-Ok-close-into.ensures.coded c.in-Ok-close-into.ensures.previewed
-    (c.in-Ok-close-into.ensures.sized.0 ∙ codes_long) (c.in-Ok-close-into.ensures.sized.1 ∙ preview-long)
+    c.in-Ok-close_into.plate c.in-Ok-close_into.cost c.in-Ok-close_into.ensures.value
+    (vec_items c.close_into.new.codes) (vec_items c.close_into.new.preview) c.in-Ok-close_into.ensures.coded c.in-Ok-close_into.ensures.previewed
+    (c.in-Ok-close_into.ensures.sized.0 ∙ codes_long) (c.in-Ok-close_into.ensures.sized.1 ∙ preview-long)
 
 pub returns-in-Err : goal.returns-in-Err
 returns-in-Err g c pixels full =

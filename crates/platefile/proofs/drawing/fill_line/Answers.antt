@@ -7,17 +7,17 @@ use Rattle.one_line.proofs.Filling.{filled_all, fill_more, fill_stops}
 use Rattle.platefile.proofs.Pixels.{length-pixels, pixels_more}
 use Rattle.platefile.proofs.drawing.fill_line.Goals as goal
 
-pub returns-in-err-add-wanted : goal.returns-in-err-add-wanted
-returns-in-err-add-wanted g c =
+pub returns-in_err-add_wanted : goal.returns-in_err-add_wanted
+returns-in_err-add_wanted g c =
     let a = c.args in
     let m = g.M.DisplayMachine.meaning a.machine.now in
     let fits : a.width * m.states + m.states ≤ length c.loop-pixel.cells = omega (arith, c.requires.fits, c.loop-pixel.auto.cells) in
     let i = c.loop-pixel.pixel in
-    let next = pixels_more a.pins.now a.targets.now i c.pin-at.result (omega (arith, c.requires.long, c.loop-pixel-test.true)) c.pin-at.ensures in
+    let next = pixels_more a.pins.now a.targets.now i c.pin_at.result (omega (arith, c.requires.long, c.loop-pixel-test.true)) c.pin_at.ensures in
     let r =
     fill_stops m g.C.Cost.kind a.width (pixels_of_line a.pins.now a.targets.now) a.line.now.plate i c.loop-pixel.line c.loop-pixel.cells
-    c.loop-pixel.invariant fits c.loop-pixel-test.true (record { target = target_at a.targets.now (3 * i); pin = c.pin-at.result }) next c.add-wanted.new.line c.in-err-add-wanted.ensures.line
-    c.from-residual.result c.in-err-add-wanted.field-0.0 c.from-residual.ensures.1 c.in-err-add-wanted.ensures.value
+    c.loop-pixel.invariant fits c.loop-pixel-test.true (record { target = target_at a.targets.now (3 * i); pin = c.pin_at.result }) next c.add_wanted.new.line c.in_err-add_wanted.ensures.line
+    c.from_residual.result c.in_err-add_wanted.field-0.0 c.from_residual.ensures.1 c.in_err-add_wanted.ensures.value
     in
     record { value = r.0; plate = r.1; drawn = λ none. absurd (r.2 none) }
 
@@ -27,10 +27,10 @@ loop-pixel-preserved g c =
     let m = g.M.DisplayMachine.meaning a.machine.now in
     let fits : a.width * m.states + m.states ≤ length c.loop-pixel.cells = omega (arith, c.requires.fits, c.loop-pixel.auto.cells) in
     let i = c.loop-pixel.pixel in
-    let next = pixels_more a.pins.now a.targets.now i c.pin-at.result (omega (arith, c.requires.long, c.loop-pixel-test.true)) c.pin-at.ensures in
+    let next = pixels_more a.pins.now a.targets.now i c.pin_at.result (omega (arith, c.requires.long, c.loop-pixel-test.true)) c.pin_at.ensures in
     fill_more m g.C.Cost.kind a.width (pixels_of_line a.pins.now a.targets.now) a.line.now.plate i c.loop-pixel.line c.loop-pixel.cells
-    c.loop-pixel.invariant fits c.loop-pixel-test.true (record { target = target_at a.targets.now (3 * i); pin = c.pin-at.result }) next c.add-wanted.new.line c.in-ok-add-wanted.ensures.line
-    (g.met.M.DisplayMachine.lawful a.machine.now) g.met.C.Cost.lawful c.add-wanted.new.cells c.in-ok-add-wanted.ensures.cells c.in-ok-add-wanted.ensures.value
+    c.loop-pixel.invariant fits c.loop-pixel-test.true (record { target = target_at a.targets.now (3 * i); pin = c.pin_at.result }) next c.add_wanted.new.line c.in_ok-add_wanted.ensures.line
+    (g.met.M.DisplayMachine.lawful a.machine.now) g.met.C.Cost.lawful c.add_wanted.new.cells c.in_ok-add_wanted.ensures.cells c.in_ok-add_wanted.ensures.value
 
 pub returns : goal.returns
 returns g c =

@@ -11,7 +11,7 @@ returns g c =
     let m = meaning_of h.display in
     let k = g.C.Cost.kind in
     let rest = drop h.at c.args.input.now in
-    let sound = c.display-laws.ensures in
+    let sound = c.display_laws.ensures in
     let law = g.met.C.Cost.lawful in
     record {
       outs = ap (λ n. outputs m k n h.colours h.width h.at rest c.new.result.lines c.new.result.total) (sym c.in-Ok.cells.ok.0 ∙ c.in-Ok.ensures)

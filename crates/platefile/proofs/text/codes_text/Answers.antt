@@ -13,7 +13,7 @@ unfolding codes_bytes
 loop-code-preserved c =
     spaced_more decimal c.args.codes.now c.loop-code.code-index (omega arith)
     c.loop-code.invariant
-    c.in-ok-write.ensures.bytes
+    c.in_ok-write.ensures.bytes
 
 pub returns : goal.returns
 returns c = c.loop-code.invariant ∙ ap codes_bytes (take_all c.loop-code.code-index c.args.codes.now (omega arith))

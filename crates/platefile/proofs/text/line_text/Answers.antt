@@ -5,6 +5,6 @@ use Rattle.platefile.proofs.text.line_text.Goals as goal
 pub returns : goal.returns
 unfolding line_bytes
 returns g c shown-cost e =
-    let codes = c.in-ok-codes.ensures in
-    let preview = c.in-ok-preview.ensures in
-    rw (sym codes, sym preview) (rw e at c.in-ok-text.ensures.ok)
+    let codes = c.in_ok-codes.ensures in
+    let preview = c.in_ok-preview.ensures in
+    rw (sym codes, sym preview) (rw e at c.in_ok-text.ensures.ok)

@@ -14,7 +14,7 @@ unfolding preview_bytes
 loop-number-preserved c =
     spaced_more (λ n. colour_text (record { 0 = n })) c.args.preview.now c.loop-number.number-index (omega arith)
     c.loop-number.invariant
-    c.in-ok-write.ensures.bytes
+    c.in_ok-write.ensures.bytes
 
 pub returns : goal.returns
 returns c = c.loop-number.invariant ∙ ap preview_bytes (take_all c.loop-number.number-index c.args.preview.now (omega arith))

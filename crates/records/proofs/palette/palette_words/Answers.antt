@@ -10,7 +10,7 @@ pub loop-i-preserved : goal.loop-i-preserved
 loop-i-preserved g c =
     let filled = c.loop-i.colour-items in
     let i = c.loop-i.i in
-    let word = c.from-le-bytes.result in
+    let word = c.from_le_bytes.result in
     let inv = c.loop-i.invariant in
     (length-set filled i word ∙ inv.0, filled_more c.args.body.now i word (omega (arith, c.requires)) (omega arith) filled (omega arith) inv.1)
 

@@ -7,10 +7,10 @@ pub returns : goal.returns
 returns g c =
     let m = g.M.DisplayMachine.meaning c.args.machine.now in
     let k = g.C.Cost.kind in
-    let codes = c.as-mut-slice.ensures.value in
-    let preview = c.as-mut-slice-2.ensures.value in
-    let codes-left = with_items_is c.args.codes.now c.close.new.codes (c.close.auto.codes ∙ c.as-mut-slice.ensures.len) in
-    let preview-left = with_items_is c.args.preview.now c.close.new.preview (c.close.auto.preview ∙ c.as-mut-slice-2.ensures.len) in
+    let codes = c.as_mut_slice.ensures.value in
+    let preview = c.as_mut_slice-2.ensures.value in
+    let codes-left = with_items_is c.args.codes.now c.close.new.codes (c.close.auto.codes ∙ c.as_mut_slice.ensures.len) in
+    let preview-left = with_items_is c.args.preview.now c.close.new.preview (c.close.auto.preview ∙ c.as_mut_slice-2.ensures.len) in
     record {
       sized = (ap length codes-left ∙ c.close.auto.codes ∙ ap length codes, ap length preview-left ∙ c.close.auto.preview ∙ ap length preview);
       value = c.close.ensures.value ∙ ap₂ (closing m k c.args.line c.args.cells.now) codes preview;

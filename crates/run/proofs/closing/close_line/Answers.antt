@@ -2,17 +2,17 @@ use Rattle.std.proofs.Common.{◌≡◌, length, take, vec_items, sym, refl, ap,
 use Rattle.run.proofs.Answering.{closes, closes_not}
 use Rattle.run.proofs.closing.close_line.Goals as goal
 
-pub returns-in-Ok-close-into : goal.returns-in-Ok-close-into
-returns-in-Ok-close-into g c lines width pixels right =
+pub returns-in-Ok-close_into : goal.returns-in-Ok-close_into
+returns-in-Ok-close_into g c lines width pixels right =
     let count = c.pixels-pixels.result in
     closes (g.M.DisplayMachine.meaning c.args.machine.now) g.C.Cost.kind (g.met.M.DisplayMachine.lawful c.args.machine.now) g.met.C.Cost.lawful lines
     width pixels c.args.line c.args.cells.now c.args.cells.now right
     (vec_items c.in-Ok.codes) (vec_items c.in-Ok-vec.preview) c.args.codes c.args.preview
     (sym c.in-Ok.codes.ok.0 ∙ c.in-Ok.ensures.made.1) (sym c.in-Ok-vec.preview.ok.0 ∙ c.in-Ok-vec.ensures.made.1)
-    c.in-Ok-close-into.plate c.in-Ok-close-into.cost c.truncate.new.self c.truncate-in-Ok-close-into.new.self count
-    c.in-Ok-close-into.ensures.value c.pixels-pixels.ensures
-    (c.truncate.ensures.items ∙ ap (take count) c.in-Ok-close-into.ensures.coded)
-    (c.truncate-in-Ok-close-into.ensures.items ∙ ap (take count) c.in-Ok-close-into.ensures.previewed)
+    c.in-Ok-close_into.plate c.in-Ok-close_into.cost c.truncate.new.self c.truncate-in-Ok-close_into.new.self count
+    c.in-Ok-close_into.ensures.value c.pixels-pixels.ensures
+    (c.truncate.ensures.items ∙ ap (take count) c.in-Ok-close_into.ensures.coded)
+    (c.truncate-in-Ok-close_into.ensures.items ∙ ap (take count) c.in-Ok-close_into.ensures.previewed)
 
 pub returns-in-Err : goal.returns-in-Err
 returns-in-Err g c lines width pixels right =

@@ -29,9 +29,9 @@ loop-call-preserved g c =
     let a = account_from new_account (vec_items c.loop-call.entries) in
     let step = c.in-Answered.ensures a so_far.agrees in
     recorded_more m k (length c.args.cells.now) c.args.calls.now c.loop-call.call-index (vec_items c.loop-call.entries) c.loop-call.state c.loop-call.cells so_far
-    (Start 0) c.in-Answered.answer (vec_items c.push.new.self) c.in-Answered.next c.make-call.new.cells (omega arith)
+    (Start 0) c.in-Answered.answer (vec_items c.push.new.self) c.in-Answered.next c.make_call.new.cells (omega arith)
     (subst (λ n. RightAt m k n a.closed a.stand (get_or c.args.calls.now c.loop-call.call-index (Start 0)) c.in-Answered.answer) c.loop-call.auto.cells step.0)
-    step.1 c.in-default.ensures.items
+    step.1 c.in_default.ensures.items
 
 pub returns : goal.returns
 returns g c =

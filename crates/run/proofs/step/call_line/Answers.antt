@@ -7,26 +7,26 @@ pub returns-in-Pixel : goal.returns-in-Pixel
 returns-in-Pixel g c lines width pixels right =
     let m = g.M.DisplayMachine.meaning c.args.machine.now in
     let k = g.C.Cost.kind in
-    subst (λ call. StepRight m k (length c.args.cells.now) (in_line m k lines width pixels) call c.add-pixel.new.cells c.add-pixel.result) (sym c.in-Pixel.is) (c.add-pixel.ensures lines width pixels right)
+    subst (λ call. StepRight m k (length c.args.cells.now) (in_line m k lines width pixels) call c.add_pixel.new.cells c.add_pixel.result) (sym c.in-Pixel.is) (c.add_pixel.ensures lines width pixels right)
 
 pub returns-in-Pin : goal.returns-in-Pin
 returns-in-Pin g c lines width pixels right =
     let m = g.M.DisplayMachine.meaning c.args.machine.now in
     let k = g.C.Cost.kind in
-    subst (λ call. StepRight m k (length c.args.cells.now) (in_line m k lines width pixels) call c.add-pin.new.cells c.add-pin.result) (sym c.in-Pin.is) (c.add-pin.ensures lines width pixels right)
+    subst (λ call. StepRight m k (length c.args.cells.now) (in_line m k lines width pixels) call c.add_pin.new.cells c.add_pin.result) (sym c.in-Pin.is) (c.add_pin.ensures lines width pixels right)
 
 pub returns-in-Back : goal.returns-in-Back
 returns-in-Back g c lines width pixels right =
     let m = g.M.DisplayMachine.meaning c.args.machine.now in
     let k = g.C.Cost.kind in
     let cells = c.args.cells.now in
-    rw (c.in-Back.is, c.strike-pixel.ensures) (strikes m k (g.met.M.DisplayMachine.lawful c.args.machine.now) g.met.C.Cost.lawful lines width pixels c.args.line cells cells right refl)
+    rw (c.in-Back.is, c.strike_pixel.ensures) (strikes m k (g.met.M.DisplayMachine.lawful c.args.machine.now) g.met.C.Cost.lawful lines width pixels c.args.line cells cells right refl)
 
 pub returns-in-Close : goal.returns-in-Close
 returns-in-Close g c lines width pixels right =
     let m = g.M.DisplayMachine.meaning c.args.machine.now in
     let k = g.C.Cost.kind in
-    subst (λ call. StepRight m k (length c.args.cells.now) (in_line m k lines width pixels) call c.args.cells.now c.close-line.result) (sym c.in-Close.is) (c.close-line.ensures lines width pixels right)
+    subst (λ call. StepRight m k (length c.args.cells.now) (in_line m k lines width pixels) call c.args.cells.now c.close_line.result) (sym c.in-Close.is) (c.close_line.ensures lines width pixels right)
 
 pub returns-in-Abandon : goal.returns-in-Abandon
 returns-in-Abandon g c lines width pixels right =

@@ -7,12 +7,12 @@ pub returns-in-Resting : goal.returns-in-Resting
 returns-in-Resting g c a agrees =
     let m = g.M.DisplayMachine.meaning c.args.machine.now in
     let k = g.C.Cost.kind in
-    from_rest m k (length c.args.cells.now) c.args.call c.call-plate.new.cells c.call-plate.result c.in-Resting.plate c.args.cells.now c.call-plate.ensures a.closed a.stand
+    from_rest m k (length c.args.cells.now) c.args.call c.call_plate.new.cells c.call_plate.result c.in-Resting.plate c.args.cells.now c.call_plate.ensures a.closed a.stand
     (subst (λ state. Agrees m k a state c.args.cells.now) c.in-Resting.is agrees)
 
 pub returns-in-Drawing : goal.returns-in-Drawing
 returns-in-Drawing g c a agrees =
     let m = g.M.DisplayMachine.meaning c.args.machine.now in
     let k = g.C.Cost.kind in
-    from_line m k (length c.args.cells.now) c.args.call c.call-line.new.cells c.call-line.result c.in-Drawing.line c.args.cells.now c.call-line.ensures a.closed a.stand
+    from_line m k (length c.args.cells.now) c.args.call c.call_line.new.cells c.call_line.result c.in-Drawing.line c.args.cells.now c.call_line.ensures a.closed a.stand
     (subst (λ state. Agrees m k a state c.args.cells.now) c.in-Drawing.is agrees)

@@ -7,4 +7,4 @@ pub loop-code-init : goal.loop-code-init
 loop-code-init g c = indexed-none _ (λ t x. refl) _
 
 pub loop-code-preserved : goal.loop-code-preserved
-loop-code-preserved g c = rw add-one (c.bid-code.ensures ∙ ap (indexed _) c.loop-code.invariant ∙ indexed-indexed _ _ c.args.next.now)
+loop-code-preserved g c = rw add-one (c.bid_code.ensures ∙ ap (indexed _) c.loop-code.invariant ∙ indexed-indexed _ _ c.args.next.now)

@@ -3,17 +3,17 @@ use Rattle.trellis.proofs.Reading.{column_before}
 use Rattle.trellis.proofs.Back.{sound_step}
 use Rattle.trellis.proofs.trace.way_is_sound.Goals as goal
 
-pub cell-at-cell-requires : goal.cell-at-cell-requires
-cell-at-cell-requires g c = column_before _ _ _ _ c.requires (omega arith)
+pub cell_at-cell-requires : goal.cell_at-cell-requires
+cell_at-cell-requires g c = column_before _ _ _ _ c.requires (omega arith)
 
-pub returns-then-not-step-is-sound : goal.returns-then-not-step-is-sound
-returns-then-not-step-is-sound g c =
+pub returns-then-not-step_is_sound : goal.returns-then-not-step_is_sound
+returns-then-not-step_is_sound g c =
     let m = g.M.DisplayMachine.meaning c.args.machine.now in
-    let step = sound_step m g.C.Cost.kind _ _ _ _ false c.loop-pixel-test.true c.cell-at-cell.ensures c.if-not-step-is-sound.ensures in
+    let step = sound_step m g.C.Cost.kind _ _ _ _ false c.loop-pixel-test.true c.cell_at-cell.ensures c.if-not-step_is_sound.ensures in
     cc
 
 pub loop-pixel-preserved : goal.loop-pixel-preserved
 loop-pixel-preserved g c =
     let m = g.M.DisplayMachine.meaning c.args.machine.now in
-    let step = sound_step m g.C.Cost.kind _ _ _ _ true c.loop-pixel-test.true c.cell-at-cell.ensures c.if-not-step-is-sound.ensures in
+    let step = sound_step m g.C.Cost.kind _ _ _ _ true c.loop-pixel-test.true c.cell_at-cell.ensures c.if-not-step_is_sound.ensures in
     cc

@@ -16,7 +16,7 @@ returns-in-Line g c =
     let k = g.C.Cost.kind in
     let input = s.input.now in
     let targets = c.args.targets.now in
-    let same = ap length c.as-mut-slice.ensures.value in
+    let same = ap length c.as_mut_slice.ensures.value in
     let l : ClosedLine g.row.C.Denot = record { pixels = pixels_of_line c.args.pins.now targets; codes = vec_items c.in-Line.codes; preview = vec_items c.in-Line.preview; cost = c.in-Line.cost } in
     let draws = subst (λ n. Draws m k n s.heading.width (pixels_of_line c.args.pins.now targets) s.plate c.in-Line.plate l) same c.in-Line.ensures in
     record {
@@ -25,7 +25,7 @@ returns-in-Line g c =
         out = drawn_out m k (length (vec_items s.cells)) s.heading.colours s.heading.width c.args.at input s.plate pinned c.args.pins.now targets
             (line_here s.heading.colours s.heading.width (stage_after pinned) c.args.at input targets here.good here.marked here.body) pins-are
             c.in-Line.plate l draws c.lines-number.result _ _ c.lines-number.ensures refl
-            (ap length (with_items_is s.cells c.draw-any.new.cells (c.draw-any.auto.cells ∙ c.as-mut-slice.ensures.len)) ∙ c.draw-any.auto.cells ∙ same);
+            (ap length (with_items_is s.cells c.draw_any.new.cells (c.draw_any.auto.cells ∙ c.as_mut_slice.ensures.len)) ∙ c.draw_any.auto.cells ∙ same);
         cost_is = refl;
         codes_are = refl;
         preview_is = refl;
@@ -45,7 +45,7 @@ returns-in-Refused g c =
       out = λ pinned pins-are here. refused_out m k (length (vec_items s.cells)) s.heading.colours s.heading.width c.args.at input s.plate pinned c.args.pins.now targets
           (line_here s.heading.colours s.heading.width (stage_after pinned) c.args.at input targets here.good here.marked here.body) pins-are
           c.in-Refused.fault
-          (subst (λ n. drawn_line m k n s.plate.lines s.heading.width (pixels_of_line c.args.pins.now targets) ≡ Err c.in-Refused.fault) (ap length c.as-mut-slice.ensures.value) c.in-Refused.ensures.0)
+          (subst (λ n. drawn_line m k n s.plate.lines s.heading.width (pixels_of_line c.args.pins.now targets) ≡ Err c.in-Refused.fault) (ap length c.as_mut_slice.ensures.value) c.in-Refused.ensures.0)
           c.lines-number.result c.lines-number.ensures;
       shortens = tt;
     }
