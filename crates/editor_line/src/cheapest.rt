@@ -25,7 +25,7 @@ pub fn cheapest_line<M: DisplayMachine>(
     machine: &M,
     targets: &[u8],
 ) -> Result<Result<FoundLine, Fault>, AllocError>
-    ensures { IfOk result (Cheapest (meaning machine.now) targets.now) }
+    ensures { IfOk result (Cheapest (M.meaning machine.now) targets.now) }
 {
     let pixels = targets.len() / 3;
     // Refused by start too; but for any number of pixels the cells might be too many to count.

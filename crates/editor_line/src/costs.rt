@@ -20,7 +20,7 @@ pub fn costs_of_line<M: DisplayMachine>(
     codes: &[u8],
     targets: &[u8],
 ) -> Result<Costs, Fault>
-    ensures { result ≡ answer (judge_check (meaning machine.now) codes.now targets.now) (all_costs (meaning machine.now) codes.now targets.now) }
+    ensures { result ≡ answer (judge_check (M.meaning machine.now) codes.now targets.now) (all_costs (M.meaning machine.now) codes.now targets.now) }
 {
     Ok(Costs {
         summed: judge(machine, codes, targets)?,

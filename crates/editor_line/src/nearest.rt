@@ -37,7 +37,7 @@ fn nearer(best: Option<Choice>, new: Choice) -> Choice
 
 // The first code that leads to a nearest colour, or none where no code has a next state.
 pub fn nearest<M: DisplayMachine>(machine: &M, state: u16, wanted: Levels) -> Option<Choice>
-    ensures { NearestBelow (meaning machine.now) state wanted (meaning machine.now).codes result }
+    ensures { NearestBelow (M.meaning machine.now) state wanted (M.meaning machine.now).codes result }
 {
     let mut best: Option<Choice> = None;
     for code in 0..machine.codes() {
@@ -60,7 +60,7 @@ pub fn nearest_line<M: DisplayMachine>(
     machine: &M,
     targets: &[u8],
 ) -> Result<Vec<u8>, AllocError>
-    ensures { IfOk result (λ codes. NearestLine (meaning machine.now) (meaning machine.now).start (targets_of targets.now) codes.items) }
+    ensures { IfOk result (λ codes. NearestLine (M.meaning machine.now) (M.meaning machine.now).start (targets_of targets.now) codes.items) }
 {
     let mut codes = Vec::new(heap);
     let mut state = machine.start();

@@ -8,7 +8,7 @@ use crate::fault::Fault;
 use display::DisplayMachine;
 
 pub(crate) fn check_codes<M: DisplayMachine>(machine: &M, codes: &[u8]) -> Result<(), Fault>
-    ensures { result ≡ answer (unknown_code (meaning machine.now) codes.now) tt }
+    ensures { result ≡ answer (unknown_code (M.meaning machine.now) codes.now) tt }
 {
     let count = machine.codes();
     for (pixel, code) in codes.iter().enumerate() {
@@ -20,7 +20,7 @@ pub(crate) fn check_codes<M: DisplayMachine>(machine: &M, codes: &[u8]) -> Resul
 }
 
 pub(crate) fn check_steps<M: DisplayMachine>(machine: &M, codes: &[u8]) -> Result<(), Fault>
-    ensures { result ≡ answer (no_step (meaning machine.now) codes.now) tt }
+    ensures { result ≡ answer (no_step (M.meaning machine.now) codes.now) tt }
 {
     let mut state = machine.start();
     for (pixel, code) in codes.iter().enumerate() {

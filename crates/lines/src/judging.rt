@@ -15,7 +15,7 @@ pub fn judge<M: DisplayMachine, C: Cost>(
     codes: &[u8],
     targets: &[u8],
 ) -> Result<C, Fault>
-    ensures { result ≡ judged (meaning machine.now) kind codes.now targets.now }
+    ensures { result ≡ judged (M.meaning machine.now) C.kind codes.now targets.now }
 {
     if targets.len() % 3 != 0 || targets.len() / 3 != codes.len() {
         return Err(Fault::TargetBytes { pixel: codes.len() });
@@ -27,7 +27,7 @@ pub fn judge<M: DisplayMachine, C: Cost>(
 
 fn line_cost<M: DisplayMachine, C: Cost>(machine: &M, codes: &[u8], targets: &[u8]) -> C
     requires { length targets.now ≡ 3 * length codes.now }
-    ensures { result ≡ cost_of (meaning machine.now) kind codes.now (targets_of targets.now) }
+    ensures { result ≡ cost_of (M.meaning machine.now) C.kind codes.now (targets_of targets.now) }
 {
     let mut state = machine.start();
     let mut sum = C::zero();

@@ -10,8 +10,8 @@ use display::DisplayMachine;
 
 // Writes the colours that a code line shows at the front of a buffer. A refusal writes nothing.
 pub fn show<M: DisplayMachine>(machine: &M, codes: &[u8], preview: &mut [u16]) -> Result<(), Fault>
-    ensures value { result ≡ answer (show_check (meaning machine.now) codes.now preview.old) tt }
-    ensures after { preview.new ≡ shown_buffer (meaning machine.now) codes.now preview.old }
+    ensures value { result ≡ answer (show_check (M.meaning machine.now) codes.now preview.old) tt }
+    ensures after { preview.new ≡ shown_buffer (M.meaning machine.now) codes.now preview.old }
 {
     check_codes(machine, codes)?;
     if preview.len() < codes.len() {
@@ -24,7 +24,7 @@ pub fn show<M: DisplayMachine>(machine: &M, codes: &[u8], preview: &mut [u16]) -
 
 fn write_preview<M: DisplayMachine>(machine: &M, codes: &[u8], preview: &mut [u16])
     requires { length codes.now ≤ length preview.old }
-    ensures { preview.new ≡ with_front (preview_of (meaning machine.now) codes.now) preview.old }
+    ensures { preview.new ≡ with_front (preview_of (M.meaning machine.now) codes.now) preview.old }
 {
     let mut state = machine.start();
     for (pixel, code) in codes.iter().enumerate() {

@@ -7,7 +7,7 @@ use display::{DisplayMachine, Levels};
 
 // The state after a code, or the same where the code has no next state: the walks below come after the check for that.
 pub(crate) fn next_state<M: DisplayMachine>(machine: &M, state: u16, code: u8) -> u16
-    ensures { result ≡ after_code (meaning machine.now) state code }
+    ensures { result ≡ after_code (M.meaning machine.now) state code }
 {
     match machine.step(state, code) {
         Some(next) => next,
@@ -22,7 +22,7 @@ pub fn pixel_price<M: DisplayMachine, C: Cost>(
     code: u8,
     state: u16,
 ) -> C
-    ensures { result ≡ price_at (meaning machine.now) kind wanted code state }
+    ensures { result ≡ price_at (M.meaning machine.now) C.kind wanted code state }
 {
     C::price(wanted.error(machine.shown(state)), machine.holds(code))
 }

@@ -28,11 +28,11 @@ fn fill_line<M: DisplayMachine, C: Cost>(
     line: &mut OpenLine<C>,
     targets: &[u8],
 ) -> Result<(), Fault>
-    requires fits { length targets.now / 3 * (meaning machine.now).states + (meaning machine.now).states ≤ length cells.old }
-    requires opened { OpenRight (meaning machine.now) kind (length targets.now / 3) [] line.old cells.old }
-    ensures value { result ≡ answer (blocked (meaning machine.now) kind [] (wanted_of targets.now)) tt }
+    requires fits { length targets.now / 3 * (M.meaning machine.now).states + (M.meaning machine.now).states ≤ length cells.old }
+    requires opened { OpenRight (M.meaning machine.now) C.kind (length targets.now / 3) [] line.old cells.old }
+    ensures value { result ≡ answer (blocked (M.meaning machine.now) C.kind [] (wanted_of targets.now)) tt }
     ensures plate { line.new.plate ≡ line.old.plate }
-    ensures drawn { blocked (meaning machine.now) kind [] (wanted_of targets.now) ≡ None → OpenRight (meaning machine.now) kind (length targets.now / 3) (reverse (wanted_of targets.now)) line.new cells.new }
+    ensures drawn { blocked (M.meaning machine.now) C.kind [] (wanted_of targets.now) ≡ None → OpenRight (M.meaning machine.now) C.kind (length targets.now / 3) (reverse (wanted_of targets.now)) line.new cells.new }
 {
     for pixel in 0..targets.len() / 3 {
         let target = Target {
@@ -54,7 +54,7 @@ pub fn draw_line<M: DisplayMachine, C: Cost>(
     codes: &mut [u8],
     preview: &mut [u16],
 ) -> Result<Figures<C>, Fault>
-    ensures { Draws (meaning machine.now) kind (length cells.old) targets.now codes.old preview.old result codes.new preview.new }
+    ensures { Draws (M.meaning machine.now) C.kind (length cells.old) targets.now codes.old preview.old result codes.new preview.new }
 {
     let pixels = targets.len() / 3;
     // No u16 counts them, so start, which would refuse that width, cannot be asked.

@@ -42,9 +42,9 @@ fn add_wanted<M: DisplayMachine, C: Cost>(
     target: Target,
     pin: Option<u8>,
 ) -> Result<(), Fault>
-    ensures value { result ≡ answer (add_check (meaning machine.now) kind line.old cells.old target pin) tt }
-    ensures line { line.new ≡ added (meaning machine.now) kind line.old cells.old target pin }
-    ensures cells { cells.new ≡ added_cells (meaning machine.now) kind line.old cells.old target pin }
+    ensures value { result ≡ answer (add_check (M.meaning machine.now) C.kind line.old cells.old target pin) tt }
+    ensures line { line.new ≡ added (M.meaning machine.now) C.kind line.old cells.old target pin }
+    ensures cells { cells.new ≡ added_cells (M.meaning machine.now) C.kind line.old cells.old target pin }
 {
     match pin {
         Some(code) => line.pin(machine, cells, target, code),
@@ -62,11 +62,11 @@ fn fill_line<M: DisplayMachine, C: Cost>(
     targets: &[u8],
 ) -> Result<(), Fault>
     requires long { length targets.now ≡ 3 * width }
-    requires fits { width * (meaning machine.now).states + (meaning machine.now).states ≤ length cells.old }
-    requires opened { OpenRight (meaning machine.now) kind width [] line.old cells.old }
-    ensures value { result ≡ answer (blocked (meaning machine.now) kind [] (pixels_of_line pins.now targets.now)) tt }
+    requires fits { width * (M.meaning machine.now).states + (M.meaning machine.now).states ≤ length cells.old }
+    requires opened { OpenRight (M.meaning machine.now) C.kind width [] line.old cells.old }
+    ensures value { result ≡ answer (blocked (M.meaning machine.now) C.kind [] (pixels_of_line pins.now targets.now)) tt }
     ensures plate { line.new.plate ≡ line.old.plate }
-    ensures drawn { blocked (meaning machine.now) kind [] (pixels_of_line pins.now targets.now) ≡ None → OpenRight (meaning machine.now) kind width (reverse (pixels_of_line pins.now targets.now)) line.new cells.new }
+    ensures drawn { blocked (M.meaning machine.now) C.kind [] (pixels_of_line pins.now targets.now) ≡ None → OpenRight (M.meaning machine.now) C.kind width (reverse (pixels_of_line pins.now targets.now)) line.new cells.new }
 {
     for pixel in 0..width as usize {
         let target = Target {
@@ -87,7 +87,7 @@ fn close_line<M: DisplayMachine, C: Cost>(
     line: OpenLine<C>,
     width: u16,
 ) -> Drawn<C>
-    ensures { (pixels : List Wanted) → Full (meaning machine.now) kind width pixels line cells.now → DrawnRight (meaning machine.now) kind (length cells.now) width pixels line.plate result }
+    ensures { (pixels : List Wanted) → Full (M.meaning machine.now) C.kind width pixels line cells.now → DrawnRight (M.meaning machine.now) C.kind (length cells.now) width pixels line.plate result }
 {
     let Ok(mut codes) = vec![in heap; 0u8; width as usize] else {
         return Drawn::NoMemory {
@@ -124,7 +124,7 @@ pub(crate) fn draw_line<M: DisplayMachine, C: Cost>(
     targets: &[u8],
 ) -> Drawn<C>
     requires { length targets.now ≡ 3 * width }
-    ensures { DrawnRight (meaning machine.now) kind (length cells.old) width (pixels_of_line pins.now targets.now) plate result }
+    ensures { DrawnRight (M.meaning machine.now) C.kind (length cells.old) width (pixels_of_line pins.now targets.now) plate result }
 {
     let mut line = match plate.start(machine, cells, width) {
         Ok(line) => line,

@@ -23,7 +23,7 @@ pub enum Opened<'a> {
 
 // Every machine keeps its laws.
 fn machine_laws<M: DisplayMachine>(_machine: &M)
-    ensures { Lawful (meaning _machine.now) }
+    ensures { Lawful (M.meaning _machine.now) }
 {}
 
 fn display_laws(display: &AnyDisplay)
@@ -54,7 +54,7 @@ fn lines_of<'a, C: Cost>(
     heading: Heading,
     count: usize,
 ) -> Option<Lines<'a, C>>
-    ensures { IfSome result (λ lines. LinesRight kind heading input.now count lines) }
+    ensures { IfSome result (λ lines. LinesRight C.kind heading input.now count lines) }
 {
     display_laws(&heading.display);
     let Ok(cells) = blank_cells(heap, count) else {

@@ -17,7 +17,7 @@ pub enum Piece<'a, C> {
 
 // The next piece of what is printed.
 pub fn next_text<'a, C: Cost + Display>(heap: Global, lines: Lines<'a, C>) -> Piece<'a, C>
-    ensures text { (words : C → List ℕ) → ((cost : C) → C.Display.output cost ≡ Some (words cost)) → PieceRight kind words lines.entry result }
+    ensures text { (words : C → List ℕ) → ((cost : C) → C.Display.output cost ≡ Some (words cost)) → PieceRight C.kind words lines.entry result }
     ensures shortens { PieceShortens lines.entry result }
 {
     match lines.next(heap) {

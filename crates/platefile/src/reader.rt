@@ -82,7 +82,7 @@ impl<'a, C: Cost> Lines<'a, C> {
 
     // The next line or the end.
     pub fn next(self, heap: Global) -> Next<'a, C>
-        ensures out { NextRight kind self.entry result }
+        ensures out { NextRight C.kind self.entry result }
         ensures shortens { Shortens self.entry result }
     {
         let at = self.at;
@@ -110,7 +110,7 @@ impl<'a, C: Cost> Lines<'a, C> {
     // A line with its pins: the PN stands at `at`, and its LN must follow at once.
     fn next_pinned(self, heap: Global, pins: &'a [u8]) -> Next<'a, C>
         requires { self.at + (4 + length pins.now) ≤ length self.input.now }
-        ensures right { pins_right self.entry.heading.width pins.now ≡ true → OutRight kind (outputs_at kind self.entry (self.entry.at + (4 + length pins.now)) (Some pins.now)) self.entry.heading.display result }
+        ensures right { pins_right self.entry.heading.width pins.now ≡ true → OutRight C.kind (outputs_at C.kind self.entry (self.entry.at + (4 + length pins.now)) (Some pins.now)) self.entry.heading.display result }
         ensures wrong { pins_right self.entry.heading.width pins.now ≡ false → result ≡ Fault (out_of_range_at self.entry.at) }
         ensures shortens { Shortens self.entry result }
     {
@@ -143,7 +143,7 @@ impl<'a, C: Cost> Lines<'a, C> {
     // Draws the line whose LN stands at `at`.
     fn draw(self, heap: Global, at: usize, pins: &[u8], targets: &[u8]) -> Next<'a, C>
         requires { (length targets.now ≡ 3 * self.heading.width) × ((self.at ≤ at) × (at + (4 + length targets.now) ≤ length self.input.now)) }
-        ensures out { (pinned : Option (List ℕ)) → unwrap_or pinned [] ≡ pins.now → LineHere kind self.entry at pinned targets.now → OutRight kind (outputs_at kind self.entry at pinned) self.entry.heading.display result }
+        ensures out { (pinned : Option (List ℕ)) → unwrap_or pinned [] ≡ pins.now → LineHere C.kind self.entry at pinned targets.now → OutRight C.kind (outputs_at C.kind self.entry at pinned) self.entry.heading.display result }
         ensures shortens { Shortens self.entry result }
     {
         let Lines {
@@ -236,7 +236,7 @@ fn draw_any<C: Cost>(
     targets: &[u8],
 ) -> Drawn<C>
     requires { length targets.now ≡ 3 * width }
-    ensures { DrawnRight (meaning_of display.now) kind (length cells.old) width (pixels_of_line pins.now targets.now) plate result }
+    ensures { DrawnRight (meaning_of display.now) C.kind (length cells.old) width (pixels_of_line pins.now targets.now) plate result }
 {
     match display {
         AnyDisplay::Ham(ham) => draw_line(heap, ham, cells, plate, width, pins, targets),

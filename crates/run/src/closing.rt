@@ -23,9 +23,9 @@ pub fn close_into<M: DisplayMachine, C: Cost>(
     preview: &mut Vec<u16>,
 ) -> Result<(Plate<C>, C), (OpenLine<C>, Fault)>
     ensures sized { (length codes.new.items ≡ length codes.old.items) × (length preview.new.items ≡ length preview.old.items) }
-    ensures value { result ≡ closing (meaning machine.now) kind line cells.now codes.old.items preview.old.items }
-    ensures coded { codes.new.items ≡ closed_codes (meaning machine.now) kind line cells.now codes.old.items preview.old.items }
-    ensures previewed { preview.new.items ≡ closed_preview (meaning machine.now) kind line cells.now codes.old.items preview.old.items }
+    ensures value { result ≡ closing (M.meaning machine.now) C.kind line cells.now codes.old.items preview.old.items }
+    ensures coded { codes.new.items ≡ closed_codes (M.meaning machine.now) C.kind line cells.now codes.old.items preview.old.items }
+    ensures previewed { preview.new.items ≡ closed_preview (M.meaning machine.now) C.kind line cells.now codes.old.items preview.old.items }
 {
     line.close(machine, cells, codes.as_mut_slice(), preview.as_mut_slice())
 }
@@ -38,7 +38,7 @@ pub(crate) fn close_line<M: DisplayMachine, C: Cost>(
     codes: usize,
     preview: usize,
 ) -> Step<C>
-    ensures { (lines : List (ClosedLine C)) (width : ℕ) (pixels : List Wanted) → LineRight (meaning machine.now) kind lines width pixels line cells.now → StepRight (meaning machine.now) kind (length cells.now) (in_line (meaning machine.now) kind lines width pixels) (Close codes preview) cells.now result }
+    ensures { (lines : List (ClosedLine C)) (width : ℕ) (pixels : List Wanted) → LineRight (M.meaning machine.now) C.kind lines width pixels line cells.now → StepRight (M.meaning machine.now) C.kind (length cells.now) (in_line (M.meaning machine.now) C.kind lines width pixels) (Close codes preview) cells.now result }
 {
     let Ok(mut codes) = vec![in heap; 0u8; codes] else {
         return Step::NoMemory {

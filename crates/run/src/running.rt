@@ -32,7 +32,7 @@ pub fn run<M: DisplayMachine, C: Cost>(
     cells: &mut [Cell<C>],
     calls: &[Call],
 ) -> Result<Vec<Entry<C>>, AllocError>
-    ensures { IfOk result (λ entries. Promise (meaning machine.now) kind (length cells.old) calls.now entries.items) }
+    ensures { IfOk result (λ entries. Promise (M.meaning machine.now) C.kind (length cells.old) calls.now entries.items) }
 {
     let mut entries = Vec::new(heap);
     let mut state = State::Resting(Plate::new());

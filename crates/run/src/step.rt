@@ -22,7 +22,7 @@ pub(crate) fn make_call<M: DisplayMachine, C: Cost>(
     state: State<C>,
     call: Call,
 ) -> Step<C>
-    ensures { (a : Account C) → Agrees (meaning machine.now) kind a state cells.old → StepRight (meaning machine.now) kind (length cells.old) a call cells.new result }
+    ensures { (a : Account C) → Agrees (M.meaning machine.now) C.kind a state cells.old → StepRight (M.meaning machine.now) C.kind (length cells.old) a call cells.new result }
 {
     match state {
         State::Resting(plate) => call_plate(machine, cells, plate, call),
@@ -39,7 +39,7 @@ fn call_plate<M: DisplayMachine, C: Cost>(
     plate: Plate<C>,
     call: Call,
 ) -> Step<C>
-    ensures { (lines : List (ClosedLine C)) → PlateRight (meaning machine.now) kind lines plate → StepRight (meaning machine.now) kind (length cells.old) (at_rest (meaning machine.now) kind lines) call cells.new result }
+    ensures { (lines : List (ClosedLine C)) → PlateRight (M.meaning machine.now) C.kind lines plate → StepRight (M.meaning machine.now) C.kind (length cells.old) (at_rest (M.meaning machine.now) C.kind lines) call cells.new result }
 {
     match call {
         Call::Start { width } => start_line(machine, cells, plate, width),
@@ -65,7 +65,7 @@ fn start_line<M: DisplayMachine, C: Cost>(
     plate: Plate<C>,
     width: u16,
 ) -> Step<C>
-    ensures { (lines : List (ClosedLine C)) → PlateRight (meaning machine.now) kind lines plate → StepRight (meaning machine.now) kind (length cells.old) (at_rest (meaning machine.now) kind lines) (Start width) cells.new result }
+    ensures { (lines : List (ClosedLine C)) → PlateRight (M.meaning machine.now) C.kind lines plate → StepRight (M.meaning machine.now) C.kind (length cells.old) (at_rest (M.meaning machine.now) C.kind lines) (Start width) cells.new result }
 {
     match plate.start(machine, cells, width) {
         Ok(line) => Step::Answered {
@@ -86,7 +86,7 @@ fn call_line<M: DisplayMachine, C: Cost>(
     line: OpenLine<C>,
     call: Call,
 ) -> Step<C>
-    ensures { (lines : List (ClosedLine C)) (width : ℕ) (pixels : List Wanted) → LineRight (meaning machine.now) kind lines width pixels line cells.old → StepRight (meaning machine.now) kind (length cells.old) (in_line (meaning machine.now) kind lines width pixels) call cells.new result }
+    ensures { (lines : List (ClosedLine C)) (width : ℕ) (pixels : List Wanted) → LineRight (M.meaning machine.now) C.kind lines width pixels line cells.old → StepRight (M.meaning machine.now) C.kind (length cells.old) (in_line (M.meaning machine.now) C.kind lines width pixels) call cells.new result }
 {
     match call {
         Call::Pixel { target } => add_pixel(machine, cells, line, target),
@@ -119,7 +119,7 @@ fn add_pixel<M: DisplayMachine, C: Cost>(
     mut line: OpenLine<C>,
     target: Target,
 ) -> Step<C>
-    ensures { (lines : List (ClosedLine C)) (width : ℕ) (pixels : List Wanted) → LineRight (meaning machine.now) kind lines width pixels line cells.old → StepRight (meaning machine.now) kind (length cells.old) (in_line (meaning machine.now) kind lines width pixels) (Pixel target) cells.new result }
+    ensures { (lines : List (ClosedLine C)) (width : ℕ) (pixels : List Wanted) → LineRight (M.meaning machine.now) C.kind lines width pixels line cells.old → StepRight (M.meaning machine.now) C.kind (length cells.old) (in_line (M.meaning machine.now) C.kind lines width pixels) (Pixel target) cells.new result }
 {
     let answer = plain_answer(line.pixel(machine, cells, target));
     Step::Answered {
@@ -135,7 +135,7 @@ fn add_pin<M: DisplayMachine, C: Cost>(
     target: Target,
     code: u8,
 ) -> Step<C>
-    ensures { (lines : List (ClosedLine C)) (width : ℕ) (pixels : List Wanted) → LineRight (meaning machine.now) kind lines width pixels line cells.old → StepRight (meaning machine.now) kind (length cells.old) (in_line (meaning machine.now) kind lines width pixels) (Pin target code) cells.new result }
+    ensures { (lines : List (ClosedLine C)) (width : ℕ) (pixels : List Wanted) → LineRight (M.meaning machine.now) C.kind lines width pixels line cells.old → StepRight (M.meaning machine.now) C.kind (length cells.old) (in_line (M.meaning machine.now) C.kind lines width pixels) (Pin target code) cells.new result }
 {
     let answer = plain_answer(line.pin(machine, cells, target, code));
     Step::Answered {

@@ -24,7 +24,7 @@ fn check_cells<M: DisplayMachine>(
     width: u16,
     pixels: u16,
 ) -> Result<(), Fault>
-    ensures { result ≡ answer (too_few_cells (meaning machine.now).states cells width pixels) tt }
+    ensures { result ≡ answer (too_few_cells (M.meaning machine.now).states cells width pixels) tt }
 {
     if cells < (width as usize + 1) * machine.states() as usize {
         return Err(Fault::TooFewCells {
@@ -40,8 +40,8 @@ fn sound_pick<M: DisplayMachine, C: Cost>(
     cells: &[Cell<C>],
     n: usize,
 ) -> Result<u16, Fault>
-    requires { n * (meaning machine.now).states + (meaning machine.now).states ≤ length cells.now }
-    ensures { result ≡ answer (broken_cells (meaning machine.now) kind n cells.now) (picked_state (meaning machine.now) kind n cells.now) }
+    requires { n * (M.meaning machine.now).states + (M.meaning machine.now).states ≤ length cells.now }
+    ensures { result ≡ answer (broken_cells (M.meaning machine.now) C.kind n cells.now) (picked_state (M.meaning machine.now) C.kind n cells.now) }
 {
     match pick_state(machine, cells, n) {
         Some(last) if way_is_sound(machine, cells, n, last) => Ok(last),
@@ -52,7 +52,7 @@ fn sound_pick<M: DisplayMachine, C: Cost>(
 impl<C: Cost> Plate<C> {
     // No lines, and total zero.
     pub fn new() -> Plate<C>
-        ensures { result ≡ record { lines = 0; total = kind.zero } }
+        ensures { result ≡ record { lines = 0; total = C.kind.zero } }
     {
         Plate {
             lines: 0,
@@ -67,8 +67,8 @@ impl<C: Cost> Plate<C> {
         cells: &mut [Cell<C>],
         width: u16,
     ) -> Result<OpenLine<C>, (Plate<C>, Fault)>
-        ensures value { result ≡ started (meaning machine.now) kind self cells.old width }
-        ensures cells { cells.new ≡ started_cells (meaning machine.now) kind self cells.old width }
+        ensures value { result ≡ started (M.meaning machine.now) C.kind self cells.old width }
+        ensures cells { cells.new ≡ started_cells (M.meaning machine.now) C.kind self cells.old width }
     {
         if self.lines >= LINE_LIMIT {
             return Err((self, Fault::PlateFull));
@@ -89,7 +89,7 @@ impl<C: Cost> Plate<C> {
 
     // One line more. No plate comes near the count at which this stops.
     fn with_line(self, cost: C) -> Plate<C>
-        ensures { result ≡ with_line kind self cost }
+        ensures { result ≡ with_line C.kind self cost }
     {
         let Plate { lines, total } = self;
         Plate {
@@ -129,9 +129,9 @@ impl<C: Cost> OpenLine<C> {
         cells: &mut [Cell<C>],
         target: Target,
     ) -> Result<(), Fault>
-        ensures value { result ≡ answer (add_check (meaning machine.now) kind self.old cells.old target None) tt }
-        ensures line { self.new ≡ added (meaning machine.now) kind self.old cells.old target None }
-        ensures cells { cells.new ≡ added_cells (meaning machine.now) kind self.old cells.old target None }
+        ensures value { result ≡ answer (add_check (M.meaning machine.now) C.kind self.old cells.old target None) tt }
+        ensures line { self.new ≡ added (M.meaning machine.now) C.kind self.old cells.old target None }
+        ensures cells { cells.new ≡ added_cells (M.meaning machine.now) C.kind self.old cells.old target None }
     {
         self.add(machine, cells, target, None)
     }
@@ -144,9 +144,9 @@ impl<C: Cost> OpenLine<C> {
         target: Target,
         code: u8,
     ) -> Result<(), Fault>
-        ensures value { result ≡ answer (add_check (meaning machine.now) kind self.old cells.old target (Some code)) tt }
-        ensures line { self.new ≡ added (meaning machine.now) kind self.old cells.old target (Some code) }
-        ensures cells { cells.new ≡ added_cells (meaning machine.now) kind self.old cells.old target (Some code) }
+        ensures value { result ≡ answer (add_check (M.meaning machine.now) C.kind self.old cells.old target (Some code)) tt }
+        ensures line { self.new ≡ added (M.meaning machine.now) C.kind self.old cells.old target (Some code) }
+        ensures cells { cells.new ≡ added_cells (M.meaning machine.now) C.kind self.old cells.old target (Some code) }
     {
         self.add(machine, cells, target, Some(code))
     }
@@ -158,7 +158,7 @@ impl<C: Cost> OpenLine<C> {
         cells: usize,
         pin: Option<u8>,
     ) -> Result<(), Fault>
-        ensures { result ≡ answer (early_check (meaning machine.now) cells self.now.width pin (pixels_of self.now)) tt }
+        ensures { result ≡ answer (early_check (M.meaning machine.now) cells self.now.width pin (pixels_of self.now)) tt }
     {
         let pixels = self.pixels();
         check_cells(machine, cells, self.width, pixels)?;
@@ -180,7 +180,7 @@ impl<C: Cost> OpenLine<C> {
         target: Target,
         pin: Option<u8>,
     ) -> Result<(), Fault>
-        ensures { result ≡ answer (add_check (meaning machine.now) kind self.now cells.now target pin) tt }
+        ensures { result ≡ answer (add_check (M.meaning machine.now) C.kind self.now cells.now target pin) tt }
     {
         self.check_early(machine, cells.len(), pin)?;
         let pixel = self.pixels() as usize;
@@ -198,9 +198,9 @@ impl<C: Cost> OpenLine<C> {
         target: Target,
         pin: Option<u8>,
     ) -> Result<(), Fault>
-        ensures value { result ≡ answer (add_check (meaning machine.now) kind self.old cells.old target pin) tt }
-        ensures line { self.new ≡ added (meaning machine.now) kind self.old cells.old target pin }
-        ensures cells { cells.new ≡ added_cells (meaning machine.now) kind self.old cells.old target pin }
+        ensures value { result ≡ answer (add_check (M.meaning machine.now) C.kind self.old cells.old target pin) tt }
+        ensures line { self.new ≡ added (M.meaning machine.now) C.kind self.old cells.old target pin }
+        ensures cells { cells.new ≡ added_cells (M.meaning machine.now) C.kind self.old cells.old target pin }
     {
         self.check_add(machine, cells, target, pin)?;
         extend_line(machine, cells, self.pixels() as usize, target.levels(), pin);
@@ -228,7 +228,7 @@ impl<C: Cost> OpenLine<C> {
         codes: usize,
         preview: usize,
     ) -> Result<(), Fault>
-        ensures { result ≡ answer (ready_check (meaning machine.now) cells self.now.width codes preview (pixels_of self.now)) tt }
+        ensures { result ≡ answer (ready_check (M.meaning machine.now) cells self.now.width codes preview (pixels_of self.now)) tt }
     {
         check_cells(machine, cells, self.width, self.pixels())?;
         let pixel = self.pixels() as usize;
@@ -249,9 +249,9 @@ impl<C: Cost> OpenLine<C> {
         codes: &mut [u8],
         preview: &mut [u16],
     ) -> Result<(Plate<C>, C), (OpenLine<C>, Fault)>
-        ensures value { result ≡ closed (meaning machine.now) kind self cells.now codes.old preview.old }
-        ensures coded { codes.new ≡ closed_codes (meaning machine.now) kind self cells.now codes.old preview.old }
-        ensures previewed { preview.new ≡ closed_preview (meaning machine.now) kind self cells.now codes.old preview.old }
+        ensures value { result ≡ closed (M.meaning machine.now) C.kind self cells.now codes.old preview.old }
+        ensures coded { codes.new ≡ closed_codes (M.meaning machine.now) C.kind self cells.now codes.old preview.old }
+        ensures previewed { preview.new ≡ closed_preview (M.meaning machine.now) C.kind self cells.now codes.old preview.old }
     {
         if let Err(fault) = self.check_ready(machine, cells.len(), codes.len(), preview.len()) {
             return Err((self, fault));

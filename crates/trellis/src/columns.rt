@@ -12,7 +12,7 @@ use viterbi::{Cell, unreached};
 
 // A loop, since `fill` asks for `Clone`, which a cost need not have.
 fn clear<C: Cost>(column: &mut [Cell<C>])
-    ensures { column.new ≡ replicate (length column.old) (blank kind) }
+    ensures { column.new ≡ replicate (length column.old) (blank C.kind) }
 {
     let empty = unreached();
     for cell in column.iter_mut() {
@@ -22,8 +22,8 @@ fn clear<C: Cost>(column: &mut [Cell<C>])
 
 // Writes column 0, in which the start alone is reached, for nothing.
 pub(crate) fn write_first<M: DisplayMachine, C: Cost>(machine: &M, cells: &mut [Cell<C>])
-    requires { (meaning machine.now).states ≤ length cells.old }
-    ensures { cells.new ≡ begun (meaning machine.now) kind cells.old }
+    requires { (M.meaning machine.now).states ≤ length cells.old }
+    ensures { cells.new ≡ begun (M.meaning machine.now) C.kind cells.old }
 {
     let states = machine.states() as usize;
     let start = machine.start() as usize;
@@ -37,7 +37,7 @@ pub(crate) fn write_first<M: DisplayMachine, C: Cost>(machine: &M, cells: &mut [
 
 // A bid takes a cell that is free or held at a greater cost, so at a tie the first bid keeps it.
 fn settle<C: Cost>(cell: &mut Cell<C>, s: u16, code: u8, bid: C)
-    ensures { cell.new ≡ tried kind s code (Some bid) cell.old }
+    ensures { cell.new ≡ tried C.kind s code (Some bid) cell.old }
 {
     if !(cell.reached && cell.cost.at_most(bid)) {
         *cell = Cell {
@@ -58,8 +58,8 @@ fn bid_code<M: DisplayMachine, C: Cost>(
     code: u8,
     wanted: Levels,
 )
-    requires { (meaning machine.now).states ≤ length next.old }
-    ensures { next.new ≡ indexed (λ t. tried kind s code (offer kind cost (stage (meaning machine.now) kind wanted None) t s code)) next.old }
+    requires { (M.meaning machine.now).states ≤ length next.old }
+    ensures { next.new ≡ indexed (λ t. tried C.kind s code (offer C.kind cost (stage (M.meaning machine.now) C.kind wanted None) t s code)) next.old }
 {
     let Some(t) = machine.step(s, code) else {
         return;
@@ -76,8 +76,8 @@ fn bid_codes<M: DisplayMachine, C: Cost>(
     cost: C,
     wanted: Levels,
 )
-    requires { (meaning machine.now).states ≤ length next.old }
-    ensures { next.new ≡ indexed (λ t. tried_codes kind s (offer kind cost (stage (meaning machine.now) kind wanted None) t s) (meaning machine.now).codes) next.old }
+    requires { (M.meaning machine.now).states ≤ length next.old }
+    ensures { next.new ≡ indexed (λ t. tried_codes C.kind s (offer C.kind cost (stage (M.meaning machine.now) C.kind wanted None) t s) (M.meaning machine.now).codes) next.old }
 {
     for code in 0..machine.codes() {
         bid_code(machine, next, s, cost, code, wanted);
@@ -93,8 +93,8 @@ fn bid<M: DisplayMachine, C: Cost>(
     wanted: Levels,
     pin: Option<u8>,
 )
-    requires { (meaning machine.now).states ≤ length next.old }
-    ensures { next.new ≡ indexed (λ t. tried_codes kind s (offer kind cost (stage (meaning machine.now) kind wanted pin) t s) (meaning machine.now).codes) next.old }
+    requires { (M.meaning machine.now).states ≤ length next.old }
+    ensures { next.new ≡ indexed (λ t. tried_codes C.kind s (offer C.kind cost (stage (M.meaning machine.now) C.kind wanted pin) t s) (M.meaning machine.now).codes) next.old }
 {
     match pin {
         Some(code) => bid_code(machine, next, s, cost, code, wanted),
@@ -110,8 +110,8 @@ pub(crate) fn write_next<M: DisplayMachine, C: Cost>(
     wanted: Levels,
     pin: Option<u8>,
 )
-    requires { n * (meaning machine.now).states + 2 * (meaning machine.now).states ≤ length cells.old }
-    ensures { cells.new ≡ extended (meaning machine.now) kind wanted pin n cells.old }
+    requires { n * (M.meaning machine.now).states + 2 * (M.meaning machine.now).states ≤ length cells.old }
+    ensures { cells.new ≡ extended (M.meaning machine.now) C.kind wanted pin n cells.old }
 {
     let states = machine.states();
     let first = n * states as usize;
@@ -128,7 +128,7 @@ pub(crate) fn write_next<M: DisplayMachine, C: Cost>(
 
 // Whether some code leads on from state s.
 fn has_step<M: DisplayMachine>(machine: &M, s: u16) -> bool
-    ensures { result ≡ any_below (meaning machine.now).codes (λ c. is_some ((meaning machine.now).step s c)) }
+    ensures { result ≡ any_below (M.meaning machine.now).codes (λ c. is_some ((M.meaning machine.now).step s c)) }
 {
     for code in 0..machine.codes() {
         if machine.step(s, code).is_some() {
@@ -140,7 +140,7 @@ fn has_step<M: DisplayMachine>(machine: &M, s: u16) -> bool
 
 // Whether some permitted code leads on from state s.
 fn can_step<M: DisplayMachine>(machine: &M, s: u16, pin: Option<u8>) -> bool
-    ensures { result ≡ any_below (meaning machine.now).codes (λ c. is_some (permitted (meaning machine.now) pin s c)) }
+    ensures { result ≡ any_below (M.meaning machine.now).codes (λ c. is_some (permitted (M.meaning machine.now) pin s c)) }
 {
     match pin {
         Some(code) => machine.step(s, code).is_some(),
@@ -155,7 +155,7 @@ fn can_leave<M: DisplayMachine, C: Cost>(
     cell: Cell<C>,
     pin: Option<u8>,
 ) -> bool
-    ensures { result ≡ (cell.reached && any_below (meaning machine.now).codes (λ c. is_some (permitted (meaning machine.now) pin s c))) }
+    ensures { result ≡ (cell.reached && any_below (M.meaning machine.now).codes (λ c. is_some (permitted (M.meaning machine.now) pin s c))) }
 {
     cell.reached && can_step(machine, s, pin)
 }
@@ -167,8 +167,8 @@ pub(crate) fn can_extend_column<M: DisplayMachine, C: Cost>(
     n: usize,
     pin: Option<u8>,
 ) -> bool
-    requires { n * (meaning machine.now).states + (meaning machine.now).states ≤ length cells.now }
-    ensures { (wanted : Levels) → result ≡ can_extend (meaning machine.now) kind pin wanted n cells.now }
+    requires { n * (M.meaning machine.now).states + (M.meaning machine.now).states ≤ length cells.now }
+    ensures { (wanted : Levels) → result ≡ can_extend (M.meaning machine.now) C.kind pin wanted n cells.now }
 {
     let states = machine.states();
     let first = n * states as usize;
@@ -188,8 +188,8 @@ pub(crate) struct Trellis<'a, C: Copy> {
 
 impl<'a, C: Cost> Trellis<'a, C> {
     pub(crate) fn begin<M: DisplayMachine>(&mut self, machine: &M)
-        requires { (meaning machine.now).states ≤ length self.old.cells.now }
-        ensures cells { self.new.cells.now ≡ begun (meaning machine.now) kind self.old.cells.now }
+        requires { (M.meaning machine.now).states ≤ length self.old.cells.now }
+        ensures cells { self.new.cells.now ≡ begun (M.meaning machine.now) C.kind self.old.cells.now }
         ensures lender { self.new.cells.ghost_name ≡ self.old.cells.ghost_name }
     {
         write_first(machine, self.cells);
@@ -202,8 +202,8 @@ impl<'a, C: Cost> Trellis<'a, C> {
         wanted: Levels,
         pin: Option<u8>,
     )
-        requires { n * (meaning machine.now).states + 2 * (meaning machine.now).states ≤ length self.old.cells.now }
-        ensures cells { self.new.cells.now ≡ extended (meaning machine.now) kind wanted pin n self.old.cells.now }
+        requires { n * (M.meaning machine.now).states + 2 * (M.meaning machine.now).states ≤ length self.old.cells.now }
+        ensures cells { self.new.cells.now ≡ extended (M.meaning machine.now) C.kind wanted pin n self.old.cells.now }
         ensures lender { self.new.cells.ghost_name ≡ self.old.cells.ghost_name }
     {
         write_next(machine, self.cells, n, wanted, pin);
@@ -212,8 +212,8 @@ impl<'a, C: Cost> Trellis<'a, C> {
 
 // Begins a line in the cells, through a trellis that is given up again.
 pub(crate) fn begin_line<M: DisplayMachine, C: Cost>(machine: &M, cells: &mut [Cell<C>])
-    requires { (meaning machine.now).states ≤ length cells.old }
-    ensures { cells.new ≡ begun (meaning machine.now) kind cells.old }
+    requires { (M.meaning machine.now).states ≤ length cells.old }
+    ensures { cells.new ≡ begun (M.meaning machine.now) C.kind cells.old }
 {
     let mut trellis = Trellis { cells };
     trellis.begin(machine);
@@ -227,8 +227,8 @@ pub(crate) fn extend_line<M: DisplayMachine, C: Cost>(
     wanted: Levels,
     pin: Option<u8>,
 )
-    requires { n * (meaning machine.now).states + 2 * (meaning machine.now).states ≤ length cells.old }
-    ensures { cells.new ≡ extended (meaning machine.now) kind wanted pin n cells.old }
+    requires { n * (M.meaning machine.now).states + 2 * (M.meaning machine.now).states ≤ length cells.old }
+    ensures { cells.new ≡ extended (M.meaning machine.now) C.kind wanted pin n cells.old }
 {
     let mut trellis = Trellis { cells };
     trellis.extend(machine, n, wanted, pin);

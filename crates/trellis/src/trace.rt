@@ -10,8 +10,8 @@ use viterbi::{Cell, unreached};
 
 // The cell of state s in column n. A cell may name any state as the one before it: one that the machine has not counts as not reached.
 fn cell_at<M: DisplayMachine, C: Cost>(machine: &M, cells: &[Cell<C>], n: usize, s: u16) -> Cell<C>
-    requires { n * (meaning machine.now).states + (meaning machine.now).states ≤ length cells.now }
-    ensures { result ≡ cell_at (meaning machine.now) kind n s cells.now }
+    requires { n * (M.meaning machine.now).states + (M.meaning machine.now).states ≤ length cells.now }
+    ensures { result ≡ cell_at (M.meaning machine.now) C.kind n s cells.now }
 {
     let states = machine.states();
     if s < states {
@@ -29,8 +29,8 @@ fn keep_cheaper<M: DisplayMachine, C: Cost>(
     kept: Option<u16>,
     s: u16,
 ) -> Option<u16>
-    requires { n * (meaning machine.now).states + (meaning machine.now).states ≤ length cells.now }
-    ensures { result ≡ cheaper kind (column_at (meaning machine.now).states n cells.now) kept s }
+    requires { n * (M.meaning machine.now).states + (M.meaning machine.now).states ≤ length cells.now }
+    ensures { result ≡ cheaper C.kind (column_at (M.meaning machine.now).states n cells.now) kept s }
 {
     let cell = cell_at(machine, cells, n, s);
     if !cell.reached {
@@ -48,8 +48,8 @@ pub(crate) fn pick_state<M: DisplayMachine, C: Cost>(
     cells: &[Cell<C>],
     n: usize,
 ) -> Option<u16>
-    requires { n * (meaning machine.now).states + (meaning machine.now).states ≤ length cells.now }
-    ensures { result ≡ pick kind (column_at (meaning machine.now).states n cells.now) (meaning machine.now).states }
+    requires { n * (M.meaning machine.now).states + (M.meaning machine.now).states ≤ length cells.now }
+    ensures { result ≡ pick C.kind (column_at (M.meaning machine.now).states n cells.now) (M.meaning machine.now).states }
 {
     let mut best = None;
     for s in 0..machine.states() {
@@ -65,15 +65,15 @@ pub(crate) fn picked_cost<M: DisplayMachine, C: Cost>(
     n: usize,
     last: u16,
 ) -> C
-    requires { n * (meaning machine.now).states + (meaning machine.now).states ≤ length cells.now }
-    ensures { result ≡ (cell_at (meaning machine.now) kind n last cells.now).cost }
+    requires { n * (M.meaning machine.now).states + (M.meaning machine.now).states ≤ length cells.now }
+    ensures { result ≡ (cell_at (M.meaning machine.now) C.kind n last cells.now).cost }
 {
     cell_at(machine, cells, n, last).cost
 }
 
 // Whether the cell of state s is reached, by a step that the machine makes.
 fn step_is_sound<M: DisplayMachine, C: Cost>(machine: &M, cell: Cell<C>, s: u16) -> bool
-    ensures { result ≡ (cell.reached && leads ((meaning machine.now).step cell.prev cell.code) s) }
+    ensures { result ≡ (cell.reached && leads ((M.meaning machine.now).step cell.prev cell.code) s) }
 {
     cell.reached && machine.step(cell.prev, cell.code) == Some(s)
 }
@@ -85,8 +85,8 @@ pub(crate) fn way_is_sound<M: DisplayMachine, C: Cost>(
     n: usize,
     last: u16,
 ) -> bool
-    requires { n * (meaning machine.now).states + (meaning machine.now).states ≤ length cells.now }
-    ensures { result ≡ sound_back (meaning machine.now) kind cells.now n last }
+    requires { n * (M.meaning machine.now).states + (M.meaning machine.now).states ≤ length cells.now }
+    ensures { result ≡ sound_back (M.meaning machine.now) C.kind cells.now n last }
 {
     let mut state = last;
     for pixel in (0..n).rev() {
@@ -108,10 +108,10 @@ pub(crate) fn write_way_back<M: DisplayMachine, C: Cost>(
     codes: &mut [u8],
     preview: &mut [u16],
 )
-    requires machine_in_bounds { n * (meaning machine.now).states + (meaning machine.now).states ≤ length cells.now }
+    requires machine_in_bounds { n * (M.meaning machine.now).states + (M.meaning machine.now).states ≤ length cells.now }
     requires n_in_bounds { (n ≤ length codes.old) × (n ≤ length preview.old) }
-    ensures coded { codes.new ≡ codes_back (meaning machine.now) kind cells.now n last ++ drop n codes.old }
-    ensures previewed { preview.new ≡ colours_back (meaning machine.now) kind cells.now n last ++ drop n preview.old }
+    ensures coded { codes.new ≡ codes_back (M.meaning machine.now) C.kind cells.now n last ++ drop n codes.old }
+    ensures previewed { preview.new ≡ colours_back (M.meaning machine.now) C.kind cells.now n last ++ drop n preview.old }
 {
     let mut state = last;
     for pixel in (0..n).rev() {

@@ -19,7 +19,7 @@ pub struct Cell<C> {
 
 // The cell of a state that no way leads to.
 pub fn unreached<C: Cost>() -> Cell<C>
-    ensures { result ≡ blank kind }
+    ensures { result ≡ blank C.kind }
 {
     Cell {
         cost: C::zero(),

@@ -10,11 +10,11 @@ use display::{DisplayMachine, Fill, Ham};
 
 // The theorem takes the laws of displays and cost kinds from these two.
 fn machine_laws<M: DisplayMachine>()
-    ensures { (m : M) → Lawful (meaning m) }
+    ensures { (m : M) → Lawful (M.meaning m) }
 {}
 
 fn cost_laws<C: Cost>()
-    ensures { LawfulKind kind }
+    ensures { LawfulKind C.kind }
 {}
 
 // Of no use to a program: its contract is the theorem.
