@@ -108,8 +108,8 @@ pub(crate) fn write_way_back<M: DisplayMachine, C: Cost>(
     codes: &mut [u8],
     preview: &mut [u16],
 )
-    requires machine_in_bounds { n * (M.meaning machine.now).states + (M.meaning machine.now).states ≤ length cells.now }
-    requires n_in_bounds { (n ≤ length codes.old) × (n ≤ length preview.old) }
+    requires in_cells { n * (M.meaning machine.now).states + (M.meaning machine.now).states ≤ length cells.now }
+    requires in_buffers { (n ≤ length codes.old) × (n ≤ length preview.old) }
     ensures coded { codes.new ≡ codes_back (M.meaning machine.now) C.kind cells.now n last ++ drop n codes.old }
     ensures previewed { preview.new ≡ colours_back (M.meaning machine.now) C.kind cells.now n last ++ drop n preview.old }
 {

@@ -5,7 +5,7 @@ use Rattle.trellis.proofs.Back.{written_step}
 use Rattle.trellis.proofs.trace.write_way_back.Goals as goal
 
 pub cell_at-cell-requires : goal.cell_at-cell-requires
-cell_at-cell-requires g c = column_before _ _ _ _ c.requires.0 (omega arith)
+cell_at-cell-requires g c = column_before _ _ _ _ c.requires.in_cells (omega arith)
 
 pub loop-pixel-preserved : goal.loop-pixel-preserved
 loop-pixel-preserved g c =

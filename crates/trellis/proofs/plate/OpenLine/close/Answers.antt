@@ -21,7 +21,8 @@ returns-in-Err-sound_pick g c =
 pub write_way_back-requires : goal.write_way_back-requires
 write_way_back-requires g c =
     let a = c.args in
-    fits (g.M.DisplayMachine.meaning a.machine.now) g.C.Cost.kind a.self a.cells.now a.codes.now a.preview.now c.pixels-pixel.result c.pixels-pixel.ensures c.in_default.ensures
+    let r = fits (g.M.DisplayMachine.meaning a.machine.now) g.C.Cost.kind a.self a.cells.now a.codes.now a.preview.now c.pixels-pixel.result c.pixels-pixel.ensures c.in_default.ensures in
+    record { in_cells = r.0; in_buffers = r.1 }
 
 pub picked_cost-cost-requires : goal.picked_cost-cost-requires
 picked_cost-cost-requires g c =
