@@ -1,4 +1,5 @@
 use Rattle.std.proofs.Common.{◌≡◌, length, take, vec_items, sym, refl, ap, ◌∙◌}
+use Rattle.std.proofs.lemmas.List.{length-replicate}
 use Rattle.run.proofs.Answering.{closes, closes_not}
 use Rattle.run.proofs.closing.close_line.Goals as goal
 
@@ -8,7 +9,7 @@ returns-in-Ok-close_into g c lines width pixels right =
     closes (g.M.DisplayMachine.meaning c.args.machine.now) g.C.Cost.kind (g.met.M.DisplayMachine.lawful c.args.machine.now) g.met.C.Cost.lawful lines
     width pixels c.args.line c.args.cells.now c.args.cells.now right
     (vec_items c.in-Ok.codes) (vec_items c.in-Ok-vec.preview) c.args.codes c.args.preview
-    (sym c.in-Ok.codes.ok.0 ∙ c.in-Ok.ensures.made.1) (sym c.in-Ok-vec.preview.ok.0 ∙ c.in-Ok-vec.ensures.made.1)
+    (ap length (c.in-Ok.ensures.items_if_clones_equal (λ y e. e)) ∙ length-replicate c.args.codes 0) (ap length (c.in-Ok-vec.ensures.items_if_clones_equal (λ y e. e)) ∙ length-replicate c.args.preview 0)
     c.in-Ok-close_into.plate c.in-Ok-close_into.cost c.truncate.new.self c.truncate-in-Ok-close_into.new.self count
     c.in-Ok-close_into.ensures.value c.pixels-pixels.ensures
     (c.truncate.ensures.items ∙ ap (take count) c.in-Ok-close_into.ensures.coded)
@@ -19,5 +20,5 @@ returns-in-Err g c lines width pixels right =
     closes_not (g.M.DisplayMachine.meaning c.args.machine.now) g.C.Cost.kind (g.met.M.DisplayMachine.lawful c.args.machine.now) g.met.C.Cost.lawful lines
     width pixels c.args.line c.args.cells.now c.args.cells.now right
     (vec_items c.in-Ok.codes) (vec_items c.in-Ok-vec.preview) c.args.codes c.args.preview
-    (sym c.in-Ok.codes.ok.0 ∙ c.in-Ok.ensures.made.1) (sym c.in-Ok-vec.preview.ok.0 ∙ c.in-Ok-vec.ensures.made.1)
+    (ap length (c.in-Ok.ensures.items_if_clones_equal (λ y e. e)) ∙ length-replicate c.args.codes 0) (ap length (c.in-Ok-vec.ensures.items_if_clones_equal (λ y e. e)) ∙ length-replicate c.args.preview 0)
     c.in-Err.line c.in-Err.fault c.in-Err.ensures.value refl
