@@ -32,10 +32,6 @@ abbrev pub adding : Target → Option ℕ → Call
 adding target None = Pixel target
 adding target (Some code) = Pin target code
 
--- the checks of close before number 11 are 3, 5 and 9
-never_11 : (m : Meaning) (cells width codes preview pixels : ℕ) (fault : Fault) → ready_check m cells width codes preview pixels ≡ Some fault → number_of fault ≡ 11 → ⊥
-never_11 m cells width codes preview pixels fault e eleven = grind (arith, nat_tests)
-
 module _ {C : Type 0} (m : Meaning) (k : Kind C) (sound : Sound m) (law : Lawful k) (lines : List (ClosedLine C)) where
   module _ (plate : Plate C) (cells after : List (Cell C)) (right : PlateRight m k lines plate) where
     pub starts : (width : ℕ) (line : OpenLine C) → ◌≡◌ {A = Result (OpenLine C) (Plate C × Fault)} (Ok line) (started m k plate cells width) → after ≡ started_cells m k plate cells width →
@@ -106,7 +102,7 @@ module _ {C : Type 0} (m : Meaning) (k : Kind C) (sound : Sound m) (law : Lawful
           let check : ready_check m (length cells) width n p (length pixels) ≡ Some fault =
           ap (λ i. ready_check m (length cells) width i p (length pixels)) (sym codes_long) ∙ ap (λ i. ready_check m (length cells) width (length codes) i (length pixels)) (sym preview-long) ∙ t.0
           in (
-            subst (λ ch. CloseRight m k ch (reverse pixels) (Refused fault)) (sym check) (refl, never_11 m (length cells) width n p (length pixels) fault check),
+            subst (λ ch. CloseRight m k ch (reverse pixels) (Refused fault)) (sym check) refl,
             subst (LineRight m k lines width pixels back) (sym cells_are) (subst (λ l. LineRight m k lines width pixels l cells) (sym t.1) right),
           )
 

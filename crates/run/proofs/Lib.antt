@@ -5,3 +5,4 @@ pub mod Opened
 pub mod Steps
 pub mod Answering
 pub mod Recording
+pub mod Refusing

@@ -39,7 +39,7 @@ module _ {C : Type 0} (m : Meaning) (k : Kind C) where
       × ((fault : Fault) → and_then check (cond b None (Some (NoWay n))) ≡ Some fault → AddRight m k check pixels n (Refused fault))
   add_by (Some early) b pixels n iff = (λ e. absurd (true≢false (cc)), λ fault e. cc)
   add_by None true pixels n iff = (λ e. inl (refl, iff.0 refl), λ fault e. absurd (true≢false (cc)))
-  add_by None false pixels n iff = (λ e. absurd (true≢false (cc)), λ fault e. inr ((NoWay n, cc, refl, refl), λ codes r. true≢false (sym (iff.1 (codes, r)))))
+  add_by None false pixels n iff = (λ e. absurd (true≢false (cc)), λ fault e. inr (cc, λ codes r. true≢false (sym (iff.1 (codes, r)))))
 
   module _ (sound : Sound m) (law : Lawful k) (closed : List (ClosedLine C)) where
     pub start_taken : (plate : Plate C) (cells : List (Cell C)) (width : ℕ) (line : OpenLine C) → PlateRight m k closed plate →

@@ -1,9 +1,9 @@
 -- The promise over every run.
-use Rattle.std.specs.Prelude.{◌≡◌, ℕ, false, ◌⊎◌, List, [], ◌∷◌, map, reverse, length, take, drop, Some, None, vec_items, Option, ◌≢◌}
+use Rattle.std.specs.Prelude.{◌≡◌, ℕ, false, ◌⊎◌, List, [], ◌∷◌, map, reverse, length, take, drop, Some, None, vec_items, Option}
 use Rattle.cost.specs.Kind.{Kind, AtMost}
 use Rattle.display.specs.Machine.{Meaning}
 use Rattle.lines.specs.declared.fault.Fault.{Fault}
-use Rattle.lines.specs.Faults.{number_of, place_of}
+use Rattle.lines.specs.declared.fault.Fault.TheVariants.{NoWay}
 use Rattle.trellis.specs.Calls.{start_check, early_check, ready_check, line_empty}
 use Rattle.viterbi.specs.Totals.{total}
 use Rattle.run.specs.declared.entry.Call.{Call}
@@ -19,10 +19,6 @@ abbrev pub by_check : {C : Type 0} → Option Fault → Answer C
 by_check None = Taken
 by_check (Some fault) = Refused fault
 
--- refused by the fault of this number, at this place
-abbrev pub RefusedBy : {C : Type 0} → ℕ → ℕ → Answer C → Type 0
-RefusedBy number place answer = (fault : Fault) × (answer ≡ Refused fault) × (number_of fault ≡ number) × (place_of fault ≡ place)
-
 module _ {C : Type 0} (m : Meaning) (k : Kind C) where
   -- what pixel and pin answer, by the fault that an earlier check finds and by the line with the new pixel:
   -- refused by number 8 exactly where that line has no rival at all
@@ -30,7 +26,7 @@ module _ {C : Type 0} (m : Meaning) (k : Kind C) where
   AddRight (Some fault) pixels n answer = answer ≡ Refused fault
   AddRight None pixels n answer =
       ((answer ≡ Taken) × ((codes : List ℕ) × Rival m pixels codes))
-      ⊎ (RefusedBy 8 n answer × ((codes : List ℕ) → Rival m pixels codes → ⊥))
+      ⊎ ((answer ≡ Refused (NoWay n)) × ((codes : List ℕ) → Rival m pixels codes → ⊥))
 
   -- what close answers where no check finds a fault: the line that is promised
   abbrev pub ClosesBest : List Wanted → Answer C → Type 0
@@ -39,9 +35,9 @@ module _ {C : Type 0} (m : Meaning) (k : Kind C) where
   ClosesBest pixels (Reported lines total) = ⊥
   ClosesBest pixels (Refused fault) = ⊥
 
-  -- what close answers: refused by the fault that an early check finds, which is never number 11; else the line that is promised
+  -- what close answers: refused by the fault that an early check finds; else the line that is promised
   abbrev pub CloseRight : Option Fault → List Wanted → Answer C → Type 0
-  CloseRight (Some fault) pixels answer = (answer ≡ Refused fault) × (number_of fault ≢ 11)
+  CloseRight (Some fault) pixels answer = answer ≡ Refused fault
   CloseRight None pixels answer = ClosesBest pixels answer
 
   -- what a report answers: how many lines are closed, and their total; no other choice of rivals totals less

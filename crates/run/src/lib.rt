@@ -9,4 +9,4 @@ mod step;
 
 pub use closing::close_into;
 pub use entry::{Answer, Call, Entry};
-pub use running::run;
+pub use running::{numbers_stand, run};

@@ -8,7 +8,18 @@ ghost use Rattle.trellis.specs.Stages.{permitted, stage};
 use cost::Cost;
 use display::{DisplayMachine, Levels};
 use lines::pixel_price;
-use viterbi::{Cell, unreached};
+use viterbi::Cell;
+
+pub(crate) fn unreached<C: Cost>() -> Cell<C>
+    ensures { result ≡ blank C.kind }
+{
+    Cell {
+        cost: C::zero(),
+        prev: 0,
+        code: 0,
+        reached: false,
+    }
+}
 
 // A loop, since `fill` asks for `Clone`, which a cost need not have.
 fn clear<C: Cost>(column: &mut [Cell<C>])

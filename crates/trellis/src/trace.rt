@@ -4,9 +4,10 @@ ghost use Rattle.std.specs.Prelude.{◌≡◌, ◌+◌, ◌*◌, ◌≤◌, ◌&
 ghost use Rattle.viterbi.specs.Columns.{cheaper, leads, pick};
 ghost use Rattle.trellis.specs.Cells.{cell_at, codes_back, colours_back, column_at, sound_back};
 
+use crate::columns::unreached;
 use cost::Cost;
 use display::DisplayMachine;
-use viterbi::{Cell, unreached};
+use viterbi::Cell;
 
 // The cell of state s in column n. A cell may name any state as the one before it: one that the machine has not counts as not reached.
 fn cell_at<M: DisplayMachine, C: Cost>(machine: &M, cells: &[Cell<C>], n: usize, s: u16) -> Cell<C>
@@ -43,7 +44,7 @@ fn keep_cheaper<M: DisplayMachine, C: Cost>(
 }
 
 // The cheapest reached state of column n, the lowest at a tie.
-pub(crate) fn pick_state<M: DisplayMachine, C: Cost>(
+pub fn pick_state<M: DisplayMachine, C: Cost>(
     machine: &M,
     cells: &[Cell<C>],
     n: usize,
@@ -59,7 +60,7 @@ pub(crate) fn pick_state<M: DisplayMachine, C: Cost>(
 }
 
 // The cost in the cell of state last of column n.
-pub(crate) fn picked_cost<M: DisplayMachine, C: Cost>(
+pub fn picked_cost<M: DisplayMachine, C: Cost>(
     machine: &M,
     cells: &[Cell<C>],
     n: usize,
@@ -79,7 +80,7 @@ fn step_is_sound<M: DisplayMachine, C: Cost>(machine: &M, cell: Cell<C>, s: u16)
 }
 
 // Whether every cell on the way back from state last of column n is reached, by a step that the machine makes, and the way ends at the start.
-pub(crate) fn way_is_sound<M: DisplayMachine, C: Cost>(
+pub fn way_is_sound<M: DisplayMachine, C: Cost>(
     machine: &M,
     cells: &[Cell<C>],
     n: usize,
@@ -100,7 +101,7 @@ pub(crate) fn way_is_sound<M: DisplayMachine, C: Cost>(
 }
 
 // Writes the n codes on the way back from state last of column n, and the colours after each, to the fronts of the buffers.
-pub(crate) fn write_way_back<M: DisplayMachine, C: Cost>(
+pub fn write_way_back<M: DisplayMachine, C: Cost>(
     machine: &M,
     cells: &[Cell<C>],
     n: usize,

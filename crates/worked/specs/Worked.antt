@@ -1,4 +1,4 @@
--- Values and lines worked out by hand. A colour stands by its three levels: colour-of 15 0 0 is f00.
+-- Values worked out by hand. Colours stand as numbers: 3840 is f00, 240 is 0f0, 15 is 00f. In lines a colour stands by its levels: colour_of 15 0 0 is f00.
 use Rattle.std.specs.Prelude.{◌≡◌, ℕ, ◌-◌, ◌≤◌, List, [], ◌∷◌, map, replicate, None, slice_set}
 use Rattle.cost.specs.Kind.{Kind, AtMost}
 use Rattle.cost.specs.Kinds.{top, summed, summed_of, worst, worst_of, pair, pair_of}
@@ -33,7 +33,7 @@ white_ham = ham_meaning white
 
 -- Extra-Half-Brite, register 5 fa3 and the rest 000
 abbrev pub bright : HalfBrite
-bright = record { registers = slice_set (replicate 32 0) 5 (colour_of 15 10 3) }
+bright = record { registers = slice_set (replicate 32 0) 5 4003 }
 
 abbrev pub half_brite : Meaning
 half_brite = half_brite_meaning bright
@@ -86,11 +86,11 @@ pub record WorkedValues : Type 0 where
   pub level_255 : level_of 255 ≡ 15
   -- from 000, HAM sets red, blue and green
   pub starts_black : ham.start ≡ 0
-  pub red : Shows ham 0 47 (colour_of 15 0 0)
-  pub blue : Shows ham 0 31 (colour_of 0 0 15)
-  pub green : Shows ham 0 63 (colour_of 0 15 0)
+  pub red : Shows ham 0 47 3840
+  pub blue : Shows ham 0 31 15
+  pub green : Shows ham 0 63 240
   -- half of fa3 is 751
-  pub half : Shows half_brite 0 37 (colour_of 7 5 1)
+  pub half : Shows half_brite 0 37 1873
   -- a sum that passes top takes its count with it
   pub past_top : pair.join (pair_of top 0) (pair_of 1 0) ≡ pair_of top top
   -- so joining the same cost to two others keeps their order, at top too
@@ -98,22 +98,25 @@ pub record WorkedValues : Type 0 where
   pub after : AtMost pair (pair.join (pair_of (top - 1) 5) (pair_of 1 0)) (pair.join (pair_of top 0) (pair_of 1 0))
   -- 55 23 shows 070 077 and costs 64
   pub green_blue_legal : Legal ham green_blue
-  pub green_blue_shows : preview_of ham green_blue ≡ colour_of 0 7 0 ∷ colour_of 0 7 7 ∷ []
+  pub green_blue_shows : preview_of ham green_blue ≡ 112 ∷ 119 ∷ []
   pub green_blue_summed : cost_of ham summed green_blue wanted ≡ summed_of 64
   pub green_blue_worst : cost_of ham worst green_blue wanted ≡ worst_of 64
   pub green_blue_pair : cost_of ham pair green_blue wanted ≡ pair_of 64 2
   -- 40 0 shows 800 000 and costs 147
   pub nearest_legal : Legal ham nearest
-  pub nearest_shows : preview_of ham nearest ≡ colour_of 8 0 0 ∷ colour_of 0 0 0 ∷ []
+  pub nearest_shows : preview_of ham nearest ≡ 2048 ∷ 0 ∷ []
   pub nearest_summed : cost_of ham summed nearest wanted ≡ summed_of 147
   pub nearest_worst : cost_of ham worst nearest wanted ≡ worst_of 98
   pub nearest_pair : cost_of ham pair nearest wanted ≡ pair_of 147 1
   -- and yet no code comes nearer at either pixel
-  pub first_error : error_of (levels_of first) (colour_of 8 0 0) ≡ 49
+  pub first_error : error_of (levels_of first) 2048 ≡ 49
   pub first_nearest : (c t : ℕ) → Steps ham 0 c t → 49 ≤ error_of (levels_of first) (ham.shown t)
-  pub second_error : error_of (levels_of second) (colour_of 0 0 0) ≡ 98
-  pub second_nearest : (c t : ℕ) → Steps ham (colour_of 8 0 0) c t → 98 ≤ error_of (levels_of second) (ham.shown t)
-  -- What close gives. By summed cost the editor's line is 55 23: no line costs less than 64.
+  pub second_error : error_of (levels_of second) 0 ≡ 98
+  pub second_nearest : (c t : ℕ) → Steps ham 2048 c t → 98 ≤ error_of (levels_of second) (ham.shown t)
+
+-- What close gives.
+pub record WorkedLines : Type 0 where
+  -- By summed cost the editor's line is 55 23: no line costs less than 64.
   pub editor_summed : Closes ham summed wanted green_blue (colour_of 0 7 0 ∷ colour_of 0 7 7 ∷ []) (summed_of 64)
   -- By worst it is 55 52, which shows 070 040: at the second pixel 9 + 49 = 58 does not count beside 64, and 040 is the lowest state at 64.
   pub editor_worst : Closes ham worst wanted (55 ∷ 52 ∷ []) (colour_of 0 7 0 ∷ colour_of 0 4 0 ∷ []) (worst_of 64)

@@ -3,7 +3,7 @@
 
 ghost use Rattle.cost.specs.Kind.{Lawful as LawfulKind};
 ghost use Rattle.display.specs.Machine.{Lawful};
-ghost use Rattle.worked.specs.Worked.{WorkedValues};
+ghost use Rattle.worked.specs.Worked.{WorkedLines, WorkedValues};
 
 use cost::{Cost, Pair, Summed, Worst};
 use display::{DisplayMachine, Fill, Ham};
@@ -17,9 +17,10 @@ fn cost_laws<C: Cost>()
     ensures { LawfulKind C.kind }
 {}
 
-// Of no use to a program: its contract is the theorem.
+// Of no use to a program: its contract is the theorem, the values and the lines.
 pub fn worked_values_stand() -> u8
-    ensures { WorkedValues }
+    ensures values { WorkedValues }
+    ensures lines { WorkedLines }
 {
     machine_laws::<Ham>();
     machine_laws::<Fill>();
