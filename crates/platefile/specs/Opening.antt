@@ -27,10 +27,10 @@ pub record LinesOpened {C : Type 0} (k : Kind C) (limit : ℕ) (input : List ℕ
   pub headed : heading limit input ≡ Ok h
   pub right : LinesRight k h input cells lines
 
--- what opening a file comes to: its lines by the kind that the header names, or the fault of its heading; memory can lack only for the cells of a file whose heading is right
+-- what opening a file comes to: its lines by the kind that the header names, or the fault of its heading
 abbrev pub OpenedRight : ℕ → List ℕ → ℕ → Opened → Type 0
 OpenedRight limit input cells (Summed lines) = (h : Heading) × (h.cost ≡ by_sum) × LinesOpened summed limit input cells h lines
 OpenedRight limit input cells (Worst lines) = (h : Heading) × (h.cost ≡ by_worst) × LinesOpened worst limit input cells h lines
 OpenedRight limit input cells (Pair lines) = (h : Heading) × (h.cost ≡ by_pair) × LinesOpened pair limit input cells h lines
 OpenedRight limit input cells (Fault fault) = heading limit input ≡ Err fault
-OpenedRight limit input cells NoMemory = (h : Heading) × (heading limit input ≡ Ok h)
+OpenedRight limit input cells NoMemory = Unit {0}

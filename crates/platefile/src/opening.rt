@@ -1,8 +1,10 @@
 // Opens a plate file: reads what stands before its lines, and makes the cells.
-ghost use Rattle.std.specs.Prelude.{◌≡◌, IfSome, IfOk, vec_len};
+ghost use Rattle.std.specs.Prelude.{◌≡◌, IfSome, IfOk, IsOk, vec_len};
 ghost use Rattle.display.specs.Machine.{Lawful};
+ghost use Rattle.records.specs.Headings.{heading};
 ghost use Rattle.records.specs.Letters.{meaning_of};
 ghost use Rattle.platefile.specs.Opening.{LinesRight, OpenedRight};
+ghost use Rattle.platefile.specs.declared.opening.Opened.TheVariants.{NoMemory};
 
 use crate::reader::Lines;
 use cost::{Cost, Pair, Summed, Worst};
@@ -71,7 +73,10 @@ fn lines_of<'a, C: Cost>(
 
 // Opens a file of at most `limit` bytes, with this many cells.
 pub fn open_file<'a>(heap: Global, input: &'a [u8], limit: usize, cells: usize) -> Opened<'a>
-    ensures { OpenedRight limit input.now cells result }
+    ensures opened { OpenedRight limit input.now cells result }
+
+    // Memory can lack only for the cells of a file whose heading is right.
+    ensures memory { result ≡ NoMemory → IsOk (heading limit input.now) }
 {
     let heading = match read_heading(input, limit) {
         Ok(heading) => heading,

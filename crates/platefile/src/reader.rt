@@ -142,9 +142,9 @@ impl<'a, C: Cost> Lines<'a, C> {
 
     // Draws the line whose LN stands at `at`.
     fn draw(self, heap: Global, at: usize, pins: &[u8], targets: &[u8]) -> Next<'a, C>
-        requires { (length targets.now ≡ 3 * self.heading.width) × ((self.at ≤ at) × (at + (4 + length targets.now) ≤ length self.input.now)) }
+        requires { (length targets.now ≡ 3 * self.heading.width) × (at + (4 + length targets.now) ≤ length self.input.now) }
         ensures out { (pinned : Option (List ℕ)) → unwrap_or pinned [] ≡ pins.now → LineHere C.kind self.entry at pinned targets.now → OutRight C.kind (outputs_at C.kind self.entry at pinned) self.entry.heading.display result }
-        ensures shortens { Shortens self.entry result }
+        ensures shortens { self.entry.at ≤ at → Shortens self.entry result }
     {
         let Lines {
             input,

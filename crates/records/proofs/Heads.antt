@@ -17,7 +17,7 @@ use Rattle.records.specs.declared.record.Record.TheVariants.{Header as header, P
 use Rattle.records.specs.declared.record.Stage.{Stage}
 use Rattle.records.specs.declared.record.Stage.TheVariants.{Header as at_header, Palette as at_palette, Lines as at_lines}
 use Rattle.records.specs.Cutting.{Cuts, Taken, checked_header}
-use Rattle.records.specs.Headings.{by_check, file_limit, header_machine, header_width, heading, heading_of, palette_check}
+use Rattle.records.specs.Headings.{by_check, header_machine, header_width, heading, heading_of, palette_check}
 use Rattle.records.specs.Letters.{colours_of, cost_of_letter, display_of, words}
 use Rattle.records.specs.Records.{asks, body_at, header_right, length_at, mark_at, mark_check, next_stage, palette_right, record_check, RecordIs}
 
@@ -64,7 +64,7 @@ err_if false x e f h = (refl, cc)
 
 -- the header is cut from an input that is not too long
 pub record HeaderCut (limit : ℕ) (input : List ℕ) (m c w : ℕ) (after : Stage) : Type 0 where
-  pub size : length input ≤ min limit file_limit
+  pub size : length input ≤ limit
   pub taken : Taken 0 0 at_header 0 input (header m c w) after
 
 module _ {limit : ℕ} {input : List ℕ} {m c w : ℕ} {after : Stage} (h : HeaderCut limit input m c w after) where
@@ -81,7 +81,7 @@ module _ {limit : ℕ} {input : List ℕ} {m c w : ℕ} {after : Stage} (h : Hea
   pub header_out : (fault : PlateFault) → Err fault ≡ checked_header m c w → Err (Plate fault) ≡ heading limit input
   header_out fault e =
       let wrong = err_if (header_right m c w) _ _ fault e in
-      rw (le-ltb (min limit file_limit) (length input) h.size, h.taken.passed, right_is, wrong.0, wrong.1)
+      rw (le-ltb limit (length input) h.size, h.taken.passed, right_is, wrong.0, wrong.1)
 
 -- the header is right
 pub record HeaderRead (limit : ℕ) (input : List ℕ) (machine : MachineKind) (cost : CostKind) (colours w : ℕ) (after : Stage) : Type 0 where
@@ -97,7 +97,7 @@ module _ {limit : ℕ} {input : List ℕ} {machine : MachineKind} {cost : CostKi
 
   -- the palette is left to check
   palette_left : heading limit input ≡ by_check (palette_check input) (heading_of input)
-  palette_left = rw (le-ltb (min limit file_limit) (length input) h.cut.size, h.cut.taken.passed, right_is h.cut, yes_right)
+  palette_left = rw (le-ltb limit (length input) h.cut.size, h.cut.taken.passed, right_is h.cut, yes_right)
 
   values : ◌≡◌ {A = MachineKind × CostKind} (machine, cost) (header_machine input, unwrap_or (cost_of_letter (get_or (body_at input) 1 0)) Summed)
   values = (ok_if (header_right h.m h.c w) _ _ _ h.right).1 ∙ rw ((is h.cut).0, (is h.cut).1)

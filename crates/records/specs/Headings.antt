@@ -1,5 +1,5 @@
 -- What stands before the lines of a plate file: HD and PL.
-use Rattle.std.specs.Prelude.{ℕ, ◌+◌, min, cond, List, [], length, drop, Some, None, Ok, Err, Option, Result, nat_lt, slice_index}
+use Rattle.std.specs.Prelude.{ℕ, ◌+◌, cond, List, [], length, drop, Some, None, Ok, Err, Option, Result, nat_lt, slice_index}
 use Rattle.std.specs.Option.{unwrap_or}
 use Rattle.records.specs.declared.display_kind.CostKind.TheVariants.{Summed}
 use Rattle.records.specs.declared.display_kind.MachineKind.{MachineKind}
@@ -40,13 +40,9 @@ palette_check input =
     then_check (record_check (colours_of (header_machine input)) (header_width input) at_palette 8 (drop 8 input))
     (cond (palette_right (body_at (drop 8 input))) None (Some (Plate (OutOfRange 8))))
 
--- how many bytes a file may have at most
-abbrev pub file_limit : ℕ
-file_limit = 4194304
-
--- 12: the input passes the file's limit, or the lower one of whoever reads it
+-- 12: the input passes the limit
 abbrev pub size_check : ℕ → List ℕ → Option FileFault
-size_check limit input = cond (nat_lt (min limit file_limit) (length input)) (Some TooLong) None
+size_check limit input = cond (nat_lt limit (length input)) (Some TooLong) None
 
 -- what a header and a palette that pass their checks say
 abbrev pub heading_of : List ℕ → Heading

@@ -10,9 +10,6 @@ use crate::letters::{colour_count, cost_of, machine_of};
 use crate::palette::{colours_are_right, display_of};
 use crate::record::{Record, Stage};
 
-// The most bytes that a file may have.
-const FILE_LIMIT: usize = 4194304;
-
 // As wide as a plate's lines may be.
 const WIDEST: u16 = 640;
 
@@ -26,11 +23,11 @@ pub struct Heading {
     pub at: usize,
 }
 
-// Reads what stands before the lines of a file. A reader may set a lower limit than the file's own.
+// Reads what stands before the lines of a file. `limit` is the most bytes that a file may have.
 pub fn read_heading(input: &[u8], limit: usize) -> Result<Heading, FileFault>
     ensures { result ≡ heading limit input.now }
 {
-    if input.len() > limit.min(FILE_LIMIT) {
+    if input.len() > limit {
         return Err(FileFault::TooLong);
     }
     let mut stage = Stage::Header;

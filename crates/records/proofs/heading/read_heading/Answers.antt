@@ -11,7 +11,7 @@ use Rattle.records.proofs.heading.read_heading.Goals.{After-colour_count-colours
 
 header_cut : (c : In-Header) → HeaderCut c.args.limit c.args.input.now c.in-Header.machine c.in-Header.cost c.in-Header.width c.cut.new.stage
 header_cut c = record {
-  size = omega (arith, c.if-input-min.false, c.min.ensures);
+  size = c.if-input-limit.false;
   taken = subst (λ piece. Taken 0 0 at_header 0 c.args.input.now piece c.cut.new.stage) c.in-Header.is c.in_ok-machine.ensures;
 }
 

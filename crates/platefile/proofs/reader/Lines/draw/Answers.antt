@@ -31,7 +31,7 @@ returns-in-Line g c =
         preview_is = refl;
         best = draws.best;
       };
-      shortens = omega arith;
+      shortens = λ before. omega arith;
     }
 
 pub returns-in-Refused : goal.returns-in-Refused
@@ -47,5 +47,5 @@ returns-in-Refused g c =
           c.in-Refused.fault
           (subst (λ n. drawn_line m k n s.plate.lines s.heading.width (pixels_of_line c.args.pins.now targets) ≡ Err c.in-Refused.fault) (ap length c.as_mut_slice.ensures.value) c.in-Refused.ensures.0)
           c.lines-number.result c.lines-number.ensures;
-      shortens = tt;
+      shortens = λ _. tt;
     }

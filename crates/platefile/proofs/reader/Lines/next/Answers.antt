@@ -23,7 +23,7 @@ draw-requires g c =
     let t = c.in-Line.targets in
     let stands = line_stands s.heading.colours s.heading.width at_lines c.cut.new.stage s.at s.input.now t
     (subst (λ r. Taken s.heading.colours s.heading.width at_lines s.at r (Line t) c.cut.new.stage) c.rest_from-rest.ensures (subst (λ x. Taken s.heading.colours s.heading.width at_lines s.at c.rest_from-rest.result.now x c.cut.new.stage) c.in-Line.is c.in-Ok.ensures)) in
-    (three_each s.heading.colours s.heading.width at_lines s.at s.input.now t.now stands, (omega arith, stands.fits))
+    (three_each s.heading.colours s.heading.width at_lines s.at s.input.now t.now stands, stands.fits)
 
 pub end-requires : goal.end-requires
 end-requires g c =
@@ -52,7 +52,7 @@ returns-in-Line g c =
     let t = c.in-Line.targets in
     let stands = line_stands s.heading.colours s.heading.width at_lines c.cut.new.stage s.at s.input.now t
     (subst (λ r. Taken s.heading.colours s.heading.width at_lines s.at r (Line t) c.cut.new.stage) c.rest_from-rest.ensures (subst (λ x. Taken s.heading.colours s.heading.width at_lines s.at c.rest_from-rest.result.now x c.cut.new.stage) c.in-Line.is c.in-Ok.ensures)) in
-    record { out = c.draw.ensures.out None refl (record { good = stands.good; marked = stands.marked; body = stands.is }); shortens = c.draw.ensures.shortens }
+    record { out = c.draw.ensures.out None refl (record { good = stands.good; marked = stands.marked; body = stands.is }); shortens = c.draw.ensures.shortens (omega arith) }
 
 pub returns-in-End : goal.returns-in-End
 returns-in-End g c =

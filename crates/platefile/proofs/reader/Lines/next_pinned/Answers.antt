@@ -15,7 +15,7 @@ draw-requires g c =
     let t = c.in-Line.targets in
     let stands = line_stands s.heading.colours s.heading.width Pinned c.cut.new.stage at s.input.now t
     (subst (λ r. Taken s.heading.colours s.heading.width Pinned at r (Line t) c.cut.new.stage) c.rest_from-rest.ensures (subst (λ x. Taken s.heading.colours s.heading.width Pinned at c.rest_from-rest.result.now x c.cut.new.stage) c.in-Line.is c.in-Ok.ensures)) in
-    (three_each s.heading.colours s.heading.width Pinned at s.input.now t.now stands, (omega arith, stands.fits))
+    (three_each s.heading.colours s.heading.width Pinned at s.input.now t.now stands, stands.fits)
 
 pub returns : goal.returns
 returns g c =
@@ -27,7 +27,7 @@ returns g c =
     record {
       right = λ h. c.draw.ensures.out (Some c.args.pins.now) refl (record { good = stands.good; marked = stands.marked; body = stands.is });
       wrong = λ h. absurd (both_ways (pins_right s.heading.width c.args.pins.now) h (sym c.pins_are_right.ensures ∙ c.if-not-pins_are_right.false));
-      shortens = c.draw.ensures.shortens;
+      shortens = c.draw.ensures.shortens (omega arith);
     }
 
 pub returns-in-Err : goal.returns-in-Err
