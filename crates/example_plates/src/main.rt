@@ -10,7 +10,7 @@ use std::fs::File;
 
 fn print_plate(rt: &HostRuntime, path: &str, bounds: Bounds) -> anyhow::Result<()> {
     let input = read_input(rt.alloc(), File::open(rt, path)?, bounds.limit)?;
-    print_file(rt, &input, bounds)
+    print_file(rt, &input, bounds.limit, bounds.cells)
 }
 
 fn run(rt: &HostRuntime) -> anyhow::Result<()> {

@@ -1,11 +1,11 @@
 // Prints a plate file, each line as soon as it is drawn.
-use crate::bounds::Bounds;
+use anyhow::anyhow;
 use cost::Cost;
 use platefile::{Lines, Opened, Piece, fault_text, next_text, open_file};
 use std::fmt::Display;
 
 fn no_memory() -> anyhow::Error {
-    "not enough memory".into()
+    anyhow!("not enough memory")
 }
 
 // Prints the pieces as they come. A line leaves fewer bytes to read, so the turns end.
@@ -36,9 +36,10 @@ fn print_lines<R: Print + AllocGlobal, C: Cost + Display>(
 pub fn print_file<R: Print + AllocGlobal>(
     rt: &R,
     input: &[u8],
-    bounds: Bounds,
+    limit: usize,
+    cells: usize,
 ) -> anyhow::Result<()> {
-    match open_file(rt.alloc(), input, bounds.limit, bounds.cells) {
+    match open_file(rt.alloc(), input, limit, cells) {
         Opened::Summed { lines } => print_lines(rt, lines),
         Opened::Worst { lines } => print_lines(rt, lines),
         Opened::Pair { lines } => print_lines(rt, lines),

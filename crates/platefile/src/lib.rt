@@ -10,4 +10,8 @@ mod text;
 pub use opening::{Opened, open_file};
 pub use pieces::{Piece, next_text};
 pub use reader::{Lines, Next};
-pub use text::fault_text;
+pub use records::{
+    AnyDisplay, CostKind, FileFault, Heading, LineFault, MachineKind, Mark, PlateFault, Record,
+    Stage, read_heading,
+};
+pub use text::{fault_text, line_text, total_text};

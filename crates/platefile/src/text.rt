@@ -33,7 +33,7 @@ fn preview_text(heap: Global, preview: &[u16]) -> io::Result<String>
 }
 
 // A line that was drawn: its number, its cost and its codes, and on the next line its preview.
-pub(crate) fn line_text<C: Cost + Display>(
+pub fn line_text<C: Cost + Display>(
     heap: Global,
     number: u16,
     cost: C,
@@ -49,7 +49,7 @@ pub(crate) fn line_text<C: Cost + Display>(
 }
 
 // How many lines were drawn, and what they cost together.
-pub(crate) fn total_text<C: Cost + Display>(
+pub fn total_text<C: Cost + Display>(
     heap: Global,
     lines: u16,
     total: C,
