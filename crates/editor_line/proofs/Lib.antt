@@ -1,3 +1,4 @@
 mod Search
 mod Spaced
 mod Finding
+mod Calling

@@ -1,15 +1,23 @@
--- The cheapest line of targets, by summed errors.
-use Rattle.std.specs.Prelude.{◌≡◌, ℕ, ◌+◌, ◌*◌, ◌/◌, List, [], ◌∷◌, length, Ok, Err, vec_items, Result}
+-- The cheapest line of targets: the calls on a plate that find it, and what it is by summed errors.
+use Rattle.std.specs.Prelude.{◌≡◌, ℕ, ◌+◌, ◌*◌, ◌/◌, List, [], ◌∷◌, ◌++◌, map, length, Ok, Err, vec_items, Result}
 use Rattle.cost.specs.Kinds.{summed}
 use Rattle.cost.specs.declared.summed.Summed.{Summed}
 use Rattle.display.specs.Machine.{Meaning}
+use Rattle.display.specs.declared.colour.Target.{Target}
 use Rattle.lines.specs.declared.fault.Fault.{Fault}
 use Rattle.one_line.specs.Drawing.{drawn_line}
 use Rattle.one_line.specs.Lines.{wanted_of}
+use Rattle.run.specs.declared.entry.Call.{Call}
+use Rattle.run.specs.declared.entry.Call.TheVariants.{Start, Pixel, Close, Report}
 use Rattle.run.specs.Account.{ClosedLine}
 use Rattle.run.specs.Promise.{Reports}
 use Rattle.run.specs.Rivals.{Best}
 use Rattle.editor_line.specs.declared.cheapest.FoundLine.{FoundLine}
+
+-- a plate of one line: start, a pixel for each target, close into buffers of that length, report
+abbrev pub line_calls : List Target → List Call
+line_calls targets =
+    Start (length targets) ∷ (map Pixel targets ++ Close (length targets) (length targets) ∷ Report ∷ [])
 
 -- the line of these targets without pins, drawn on a new plate with a column of cells for each target and one more; or the first refusal
 abbrev pub cheapest : Meaning → List ℕ → Result (ClosedLine Summed) Fault

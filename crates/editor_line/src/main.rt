@@ -2,6 +2,8 @@
 // lines that are refused, and the cheapest line, found by the calls.
 #![tactic(auto)]
 
+#[cfg(test)]
+mod by_calls;
 mod cheapest;
 mod costs;
 mod nearest;

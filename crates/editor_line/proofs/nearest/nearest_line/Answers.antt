@@ -22,7 +22,7 @@ loop-pixel-preserved g c =
     let m = g.M.DisplayMachine.meaning c.args.machine.now in
     let is = c.levels-wanted.ensures ∙ ap levels_of c.target_at.ensures in
     let on = goes_on m c.args.targets.now (vec_items c.loop-pixel.codes) c.loop-pixel.state c.loop-pixel.pixel c.levels-wanted.result is (omega arith) c.loop-pixel.invariant c.in-Some.choice c.in-Some.ensures in
-    subst (λ codes. Goes m c.args.targets.now codes c.in-Some.choice.state (c.loop-pixel.pixel + 1)) (sym c.in_ok-push.ensures.items) on
+    subst (λ codes. Goes m c.args.targets.now codes c.in-Some.choice.state (c.loop-pixel.pixel + 1)) (sym c.in_ok-push-in-Some.ensures.items) on
 
 pub returns : goal.returns
 returns g c =
