@@ -15,15 +15,15 @@ use Rattle.trellis.specs.Calls.{start_check}
 use Rattle.trellis.proofs.Checking.{told, passed_both, later_says}
 
 module _ {C : Type 0} (m : Meaning) (k : Kind C) (count : ℕ) (bytes codes preview : List ℕ) (figures : Figures C) (cs ps : List ℕ) (draws : Draws m k count bytes codes preview (Ok figures) cs ps)
-    (cs-long : length cs ≡ length bytes / 3) (ps-long : length ps ≡ length bytes / 3) (xs ys : List ℕ) (xs-are : xs ≡ cs) (ys-are : ys ≡ ps) where
+    (cs_long : length cs ≡ length bytes / 3) (ps_long : length ps ≡ length bytes / 3) (xs ys : List ℕ) (xs_are : xs ≡ cs) (ys_are : ys ≡ ps) where
   abbrev whole : ClosedLine C
   whole = record { pixels = wanted_of bytes; codes = xs; preview = ys; cost = figures.cost }
 
   -- the fronts of the buffers are all that they hold
   all_front : front_line m k bytes cs ps figures.cost ≡ whole
   all_front =
-      ap (λ zs. record { pixels = wanted_of bytes; codes = zs; preview = take (length bytes / 3) ps; cost = figures.cost }) (take_all (length bytes / 3) cs (omega (arith, cs-long)) ∙ sym xs-are)
-      ∙ ap (λ zs. record { pixels = wanted_of bytes; codes = xs; preview = zs; cost = figures.cost }) (take_all (length bytes / 3) ps (omega (arith, ps-long)) ∙ sym ys-are)
+      ap (λ zs. record { pixels = wanted_of bytes; codes = zs; preview = take (length bytes / 3) ps; cost = figures.cost }) (take_all (length bytes / 3) cs (omega (arith, cs_long)) ∙ sym xs_are)
+      ∙ ap (λ zs. record { pixels = wanted_of bytes; codes = xs; preview = zs; cost = figures.cost }) (take_all (length bytes / 3) ps (omega (arith, ps_long)) ∙ sym ys_are)
 
   best : Best m k whole
   best = subst (Best m k) all_front draws.best.best

@@ -37,7 +37,7 @@ write_more front buffer rest i v h k e =
     let t = take_more front i 0 h in
     let l : length (take i front) ≡ i = length-take-le i front (omega arith) in
     let s = set_at (take i front) (get_or buffer i 0) (drop (i + 1) buffer) v i l in
-    let v-is : get_or front i 0 ≡ v = cc in
+    let v_is : get_or front i 0 ≡ v = cc in
     let a = append_assoc (take i front) (get_or front i 0 ∷ []) (drop (i + 1) buffer) in
     (cc, cc)
 

@@ -114,12 +114,12 @@ module _ {C : Type 0} (m : Meaning) (k : Kind C) (width : ℕ) (pixels : List Wa
 -- The same by what a call said and left.
 module _ {C : Type 0} (m : Meaning) (k : Kind C) (width : ℕ) (pixels : List Wanted) (plate : Plate C) (i : ℕ) (line : OpenLine C) (cells : List (Cell C)) (filled : Filled m k width pixels plate i line cells)
     (fits : width * m.states + m.states ≤ length cells) (below : i < width) (p : Wanted) (next : drop i pixels ≡ p ∷ drop (i + 1) pixels)
-    (line' : OpenLine C) (line-is : line' ≡ added m k line cells p.target p.pin) where
+    (line' : OpenLine C) (line_is : line' ≡ added m k line cells p.target p.pin) where
   pub fill_more : Sound m → Lawful k → (cells' : List (Cell C)) → cells' ≡ added_cells m k line cells p.target p.pin →
       Told None (add_check m k line cells p.target p.pin) → Filled m k width pixels plate (i + 1) line' cells'
   fill_more sound law cells' cells_are says =
       subst (Filled m k width pixels plate (i + 1) line') (sym cells_are)
-      (subst (λ l. Filled m k width pixels plate (i + 1) l (added_cells m k line cells p.target p.pin)) (sym line-is)
+      (subst (λ l. Filled m k width pixels plate (i + 1) l (added_cells m k line cells p.target p.pin)) (sym line_is)
       (filled_more m k width pixels plate i line cells filled fits below p next sound law (told None (add_check m k line cells p.target p.pin) tt tt says)))
 
   pub fill_stops : (result : Result (Unit {0}) Fault) (fault : Fault) → IsErrAnd result (λ e. e ≡ fault) → Told (Some fault) (add_check m k line cells p.target p.pin) →
@@ -127,6 +127,6 @@ module _ {C : Type 0} (m : Meaning) (k : Kind C) (width : ℕ) (pixels : List Wa
   fill_stops result fault by says =
       let stops = filled_stops m k width pixels plate i line cells filled fits below p next fault (told (Some fault) (add_check m k line cells p.target p.pin) tt tt says) in (
         passed_on result (blocked m k [] pixels) fault by (ap (λ ch. answer ch tt) (sym stops)),
-        ap (λ l. l.plate) line-is ∙ added_plate m k line cells p.target p.pin ∙ filled.rests,
+        ap (λ l. l.plate) line_is ∙ added_plate m k line cells p.target p.pin ∙ filled.rests,
         λ none. true≢false (cc (sym stops ∙ none)),
       )

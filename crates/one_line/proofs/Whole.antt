@@ -53,15 +53,15 @@ module _ {C : Type 0} (m : Meaning) (k : Kind C) (bytes codes preview : List ℕ
         ∙ ready_is m (length cells) n (length codes) (length preview) (subst (λ c. n * m.states + m.states ≤ c) (sym as_many) passed.2) passed.1
         ∙ sym (later_says (start_check m count 0 n) _ _ starts (later_says (blocked m k [] (wanted_of bytes)) _ _ passes refl))
 
-    module _ (cs ps : List ℕ) (cs-are : cs ≡ closed_codes m k line cells codes preview) (ps-are : ps ≡ closed_preview m k line cells codes preview) where
+    module _ (cs ps : List ℕ) (cs_are : cs ≡ closed_codes m k line cells codes preview) (ps_are : ps ≡ closed_preview m k line cells codes preview) where
       pub close_refuses : (back : OpenLine C) (fault : Fault) → ◌≡◌ {A = Result (Plate C × C) (OpenLine C × Fault)} (Err (back, fault)) (closing m k line cells codes preview) → Draws m k count bytes codes preview (Err fault) cs ps
       close_refuses back fault e =
           let check = (refused_back (close_check m k line cells codes preview) _ line back fault e).0 in
           let said = refused count fault (sym close_is ∙ check) in
           record {
             value = said.value;
-            coded = cs-are ∙ sym (kept (close_check m k line cells codes preview) fault _ codes check) ∙ said.coded;
-            previewed = ps-are ∙ sym (kept (close_check m k line cells codes preview) fault _ preview check) ∙ said.previewed;
+            coded = cs_are ∙ sym (kept (close_check m k line cells codes preview) fault _ codes check) ∙ said.coded;
+            previewed = ps_are ∙ sym (kept (close_check m k line cells codes preview) fault _ preview check) ∙ said.previewed;
             best = tt;
           }
 
@@ -76,7 +76,7 @@ module _ {C : Type 0} (m : Meaning) (k : Kind C) (bytes codes preview : List ℕ
         closes =
             subst (λ ws. Best m k (record { pixels = ws; codes = take (length bytes / 3) cs; preview = take (length bytes / 3) ps; cost = cost })) (reverse-reverse (wanted_of bytes))
             (closed_best m k (length bytes / 3) (reverse (wanted_of bytes)) line cells right sound law codes preview check (take (length bytes / 3) cs) (take (length bytes / 3) ps) cost
-            (front cs _ cs-are) (front ps _ ps-are) (ap (λ y. y.1) comes))
+            (front cs _ cs_are) (front ps _ ps_are) (ap (λ y. y.1) comes))
           where
             front : (xs ys : List ℕ) → xs ≡ ys → take (length bytes / 3) xs ≡ take (length (reverse (wanted_of bytes))) ys
             front xs ys are = ap (take (length bytes / 3)) are ∙ ap (λ n. take n ys) (sym long)
@@ -93,8 +93,8 @@ module _ {C : Type 0} (m : Meaning) (k : Kind C) (bytes codes preview : List ℕ
             let ys = back (pixels_of line) (picked_state m k (pixels_of line) cells) in
             let written : xs ≡ with_front ys buffer = are ∙ sym (renewed (close_check m k line cells codes preview) _ buffer check) in
             let many : length ys ≡ length bytes / 3 = sized _ _ ∙ has_pixels m k (length bytes / 3) (reverse (wanted_of bytes)) line cells right ∙ long in
-            let ys-are : ys ≡ way = sym (take_at ys (drop (length ys) buffer) (length bytes / 3) many) ∙ sym (ap (take (length bytes / 3)) written) ∙ front in
-            written ∙ ap (λ zs. with_front zs buffer) ys-are ∙ renewed (line_check m k count bytes codes preview) _ buffer (sym close_is ∙ check)
+            let ys_are : ys ≡ way = sym (take_at ys (drop (length ys) buffer) (length bytes / 3) many) ∙ sym (ap (take (length bytes / 3)) written) ∙ front in
+            written ∙ ap (λ zs. with_front zs buffer) ys_are ∙ renewed (line_check m k count bytes codes preview) _ buffer (sym close_is ∙ check)
 
         module _ (rests : line.plate ≡ record { lines = 0; total = k.zero }) (report : Report C) (reported : report ≡ record { lines = plate.lines; total = plate.total }) where
           report_is : report ≡ record { lines = 1; total = k.join k.zero cost }
@@ -109,8 +109,8 @@ module _ {C : Type 0} (m : Meaning) (k : Kind C) (bytes codes preview : List ℕ
                 ap (λ r. Ok (record { cost = cost; lines = r.lines; total = r.total })) report_is
                 ∙ ap (λ l. Ok (figures_of m k l)) is_picked
                 ∙ ap (λ ch. answer ch (figures_of m k (picked_line m k (wanted_of bytes)))) (sym (sym close_is ∙ check));
-            coded = behind (codes_back m k cells) (length_back m k cells (codes_back m k cells) (λ _ cell. cell.code) (λ _. refl) (λ _ _. refl)) cs _ codes cs-are (ap (λ l. l.codes) is_picked);
-            previewed = behind (colours_back m k cells) (length_back m k cells (colours_back m k cells) (λ s _. m.shown s) (λ _. refl) (λ _ _. refl)) ps _ preview ps-are (ap (λ l. l.preview) is_picked);
+            coded = behind (codes_back m k cells) (length_back m k cells (codes_back m k cells) (λ _ cell. cell.code) (λ _. refl) (λ _ _. refl)) cs _ codes cs_are (ap (λ l. l.codes) is_picked);
+            previewed = behind (colours_back m k cells) (length_back m k cells (colours_back m k cells) (λ s _. m.shown s) (λ _. refl) (λ _ _. refl)) ps _ preview ps_are (ap (λ l. l.preview) is_picked);
             best = record {
               best = closes;
               reports =

@@ -104,31 +104,31 @@ three_each colours width stage at input body s = eqb-true _ _ s.asked
 
 module _ {C : Type 0} (m : Meaning) (k : Kind C) (cells colours width : ℕ) (at : ℕ) (input : List ℕ) (plate : PlateAtRest C) where
   -- a line was drawn: it comes out, and the rest is what follows it on the plate that has it
-  pub drawn_out : (pinned : Option (List ℕ)) (pin-bytes targets : List ℕ) → Stands colours width (stage_after pinned) at input Line targets → unwrap_or pinned [] ≡ pin-bytes →
-      (after : PlateAtRest C) (l : ClosedLine C) (draws : Draws m k cells width (pixels_of_line pin-bytes targets) plate after l) →
+  pub drawn_out : (pinned : Option (List ℕ)) (pin_bytes targets : List ℕ) → Stands colours width (stage_after pinned) at input Line targets → unwrap_or pinned [] ≡ pin_bytes →
+      (after : PlateAtRest C) (l : ClosedLine C) (draws : Draws m k cells width (pixels_of_line pin_bytes targets) plate after l) →
       (number next cells' : ℕ) → number ≡ plate.lines → next ≡ at + (4 + length targets) → cells' ≡ cells →
       outputs_from m k cells colours width (suc (length (drop at input))) at (drop at input) pinned plate.lines plate.total
       ≡ line_out number l ∷ outputs m k cells' colours width next (drop next input) after.lines after.total
-  drawn_out pinned pin-bytes targets s pins-are after l draws number next cells' number_is next-is cells_are =
+  drawn_out pinned pin_bytes targets s pins_are after l draws number next cells' number_is next_is cells_are =
       let rest = drop at input in
       let Out : ℕ → ℕ → ℕ → List ℕ → ℕ → C → List (Output C) = λ num n i r ls t. line_out num l ∷ outputs m k n colours width i r ls t in
-      let place : at + (4 + length_at rest) ≡ next = ap (λ n. at + (4 + n)) s.long ∙ sym next-is in
+      let place : at + (4 + length_at rest) ≡ next = ap (λ n. at + (4 + n)) s.long ∙ sym next_is in
       let p = draws.counted in
       line_next m k cells colours width at rest plate.lines plate.total pinned s.good s.marked l
-      (ap (λ ps. drawn_line m k cells plate.lines width (pixels_of_line ps (body_at rest))) pins-are ∙ ap (λ ts. drawn_line m k cells plate.lines width (pixels_of_line pin-bytes ts)) s.is ∙ draws.drawn)
+      (ap (λ ps. drawn_line m k cells plate.lines width (pixels_of_line ps (body_at rest))) pins_are ∙ ap (λ ts. drawn_line m k cells plate.lines width (pixels_of_line pin_bytes ts)) s.is ∙ draws.drawn)
       ∙ ap (λ num. Out num cells (at + (4 + length_at rest)) (after_record rest) (plate.lines + 1) (k.join plate.total l.cost)) (sym number_is)
       ∙ ap (λ n. Out number n (at + (4 + length_at rest)) (after_record rest) (plate.lines + 1) (k.join plate.total l.cost)) (sym cells_are)
       ∙ ap (λ i. Out number cells' i (after_record rest) (plate.lines + 1) (k.join plate.total l.cost)) place
-      ∙ ap (λ r. Out number cells' next r (plate.lines + 1) (k.join plate.total l.cost)) (s.after ∙ ap (λ i. drop i input) (sym next-is))
+      ∙ ap (λ r. Out number cells' next r (plate.lines + 1) (k.join plate.total l.cost)) (s.after ∙ ap (λ i. drop i input) (sym next_is))
       ∙ ap (λ a. Out number cells' next (drop next input) a.lines a.total) (sym p)
 
-  pub refused_out : (pinned : Option (List ℕ)) (pin-bytes targets : List ℕ) → Stands colours width (stage_after pinned) at input Line targets → unwrap_or pinned [] ≡ pin-bytes →
-      (fault : Fault) → drawn_line m k cells plate.lines width (pixels_of_line pin-bytes targets) ≡ Err fault → (number : ℕ) → number ≡ plate.lines →
+  pub refused_out : (pinned : Option (List ℕ)) (pin_bytes targets : List ℕ) → Stands colours width (stage_after pinned) at input Line targets → unwrap_or pinned [] ≡ pin_bytes →
+      (fault : Fault) → drawn_line m k cells plate.lines width (pixels_of_line pin_bytes targets) ≡ Err fault → (number : ℕ) → number ≡ plate.lines →
       outputs_from m k cells colours width (suc (length (drop at input))) at (drop at input) pinned plate.lines plate.total
       ≡ fault_out (Plate (Trellis (record { fault = fault; line = number; at = at }))) ∷ []
-  refused_out pinned pin-bytes targets s pins-are fault drawn number number_is =
+  refused_out pinned pin_bytes targets s pins_are fault drawn number number_is =
       line_refused m k cells colours width at (drop at input) plate.lines plate.total pinned s.good s.marked fault
-      (ap (λ ps. drawn_line m k cells plate.lines width (pixels_of_line ps (body_at (drop at input)))) pins-are ∙ ap (λ ts. drawn_line m k cells plate.lines width (pixels_of_line pin-bytes ts)) s.is ∙ drawn)
+      (ap (λ ps. drawn_line m k cells plate.lines width (pixels_of_line ps (body_at (drop at input)))) pins_are ∙ ap (λ ts. drawn_line m k cells plate.lines width (pixels_of_line pin_bytes ts)) s.is ∙ drawn)
       ∙ ap (λ n. fault_out (Plate (Trellis (record { fault = fault; line = n; at = at }))) ∷ []) (sym number_is)
 
   -- from a place on, after a PN body

@@ -52,7 +52,7 @@ module _ {C : Type 0} (m : Meaning) (k : Kind C) where
       })))
 
   module _ (sound : Sound m) (law : Lawful k) (width : ℕ) (pixels : List Wanted) (line : OpenLine C) (cells : List (Cell C)) (full : Full m k width pixels line cells)
-      (codes preview : List ℕ) (codes_long : length codes ≡ width) (preview-long : length preview ≡ width) where
+      (codes preview : List ℕ) (codes_long : length codes ≡ width) (preview_long : length preview ≡ width) where
     reversed_long : length (reverse pixels) ≡ width
     reversed_long = length-reverse pixels ∙ full.long
 
@@ -62,7 +62,7 @@ module _ {C : Type 0} (m : Meaning) (k : Kind C) where
         let passed = start_passed m (length cells) line.plate.lines width full.starts in
         close_check_is m k width (reverse pixels) line cells full.drawn sound law codes preview
         ∙ ap (λ n. ready_check m (length cells) width n (length preview) (length (reverse pixels))) codes_long
-        ∙ ap (λ n. ready_check m (length cells) width width n (length (reverse pixels))) preview-long
+        ∙ ap (λ n. ready_check m (length cells) width width n (length (reverse pixels))) preview_long
         ∙ ap (ready_check m (length cells) width width width) reversed_long
         ∙ ready_is m (length cells) width width width passed.2 passed.1 ∙ not_short width
 
@@ -73,11 +73,11 @@ module _ {C : Type 0} (m : Meaning) (k : Kind C) where
     pub close_draws : (plate : Plate C) (cost : C) → ◌≡◌ {A = Result (Plate C × C) (OpenLine C × Fault)} (Ok (plate, cost)) (closing m k line cells codes preview) →
         (cs ps : List ℕ) → cs ≡ closed_codes m k line cells codes preview → ps ≡ closed_preview m k line cells codes preview → length cs ≡ width → length ps ≡ width →
         Draws m k (length cells) width pixels line.plate plate (record { pixels = pixels; codes = cs; preview = ps; cost = cost })
-    close_draws plate cost e cs ps cs-are ps-are cs-long ps-long =
+    close_draws plate cost e cs ps cs_are ps_are cs_long ps_long =
         let t = taken_back {A = Plate C × C} (close_check m k line cells codes preview) _ (plate, cost) line e in
         let cost_is : cost ≡ line_cost m k line cells = ap (λ y. y.1) t.1 in
         let closed : Best m k (record { pixels = reverse (reverse pixels); codes = cs; preview = ps; cost = cost }) =
-        closed_best m k width (reverse pixels) line cells full.drawn sound law codes preview ready cs ps cost (whole cs _ cs-long cs-are) (whole ps _ ps-long ps-are) cost_is in
+        closed_best m k width (reverse pixels) line cells full.drawn sound law codes preview ready cs ps cost (whole cs _ cs_long cs_are) (whole ps _ ps_long ps_are) cost_is in
         let best : Best m k (record { pixels = pixels; codes = cs; preview = ps; cost = cost }) =
         subst (λ ws. Best m k (record { pixels = ws; codes = cs; preview = ps; cost = cost })) (reverse-reverse pixels) closed in
         record {

@@ -12,4 +12,4 @@ pixels_from i ps (target ∷ targets) = record { target = target; pin = pin_at i
 
 -- the pixels of an LN body under a PN body; without a PN that is empty
 abbrev pub pixels_of_line : List ℕ → List ℕ → List Wanted
-pixels_of_line pin-bytes target_bytes = pixels_from 0 (pins_of pin-bytes) (targets_of target_bytes)
+pixels_of_line pin_bytes target_bytes = pixels_from 0 (pins_of pin_bytes) (targets_of target_bytes)

@@ -155,6 +155,6 @@ module _ {limit : ℕ} {input : List ℕ} {machine : MachineKind} {cost : CostKi
     pub heads : {display : AnyDisplay} → display ≡ display_of machine (words body.now) → true ≡ palette_right body.now →
         Ok (record { display = display; cost = cost; colours = colours; width = w; at = 12 + length body.now }) ≡ heading limit input
     heads {display} shown right =
-        let display-is : display ≡ display_of (header_machine input) (words (body_at (drop 8 input))) = shown ∙ rw (machine_is, body_is) in
+        let display_is : display ≡ display_of (header_machine input) (words (body_at (drop 8 input))) = shown ∙ rw (machine_is, body_is) in
         let cost_is : cost ≡ unwrap_or (cost_of_letter (get_or (body_at input) 1 0)) Summed = ap (λ p. p.1) values in
-        rw (palette_left, taken.passed, right_colours true right, display-is, cost_is, colours_is, (is h.cut).2, sizes.0)
+        rw (palette_left, taken.passed, right_colours true right, display_is, cost_is, colours_is, (is h.cut).2, sizes.0)

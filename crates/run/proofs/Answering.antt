@@ -76,7 +76,7 @@ module _ {C : Type 0} (m : Meaning) (k : Kind C) (sound : Sound m) (law : Lawful
     pub adds : (target : Target) (pin : Option ℕ) (line' : OpenLine C) (said : Answer C) → line' ≡ added m k line cells target pin → after ≡ added_cells m k line cells target pin →
         said ≡ plain (answer (add_check m k line cells target pin) tt) →
         StepRight m k (length cells) (in_line m k lines width pixels) (adding target pin) after (Answered (Drawing line') said)
-    adds target pin line' said line-is cells_are said-is = rw (line-is, said-is) (adds_by target pin cells_are (add_check m k line cells target pin) refl)
+    adds target pin line' said line_is cells_are said_is = rw (line_is, said_is) (adds_by target pin cells_are (add_check m k line cells target pin) refl)
 
     strikes_by : after ≡ cells → (said : Option Fault) → line_empty (pixels_of line) ≡ said →
         StepRight m k (length cells) (in_line m k lines width pixels) Back after (Answered (Drawing (struck line)) (plain (answer said tt)))
@@ -92,15 +92,15 @@ module _ {C : Type 0} (m : Meaning) (k : Kind C) (sound : Sound m) (law : Lawful
 
     pub abandons : (plate : Plate C) → plate ≡ line.plate →
         StepRight m k (length cells) (in_line m k lines width pixels) Abandon after (Answered (Resting plate) Taken)
-    abandons plate plate-is = (refl, subst (PlateRight m k lines) (sym plate-is) right.plate)
+    abandons plate plate_is = (refl, subst (PlateRight m k lines) (sym plate_is) right.plate)
 
-    module _ (codes preview : List ℕ) (n p : ℕ) (codes_long : length codes ≡ n) (preview-long : length preview ≡ p) where
+    module _ (codes preview : List ℕ) (n p : ℕ) (codes_long : length codes ≡ n) (preview_long : length preview ≡ p) where
       pub closes_not : (back : OpenLine C) (fault : Fault) → ◌≡◌ {A = Result (Plate C × C) (OpenLine C × Fault)} (Err (back, fault)) (closing m k line cells codes preview) → after ≡ cells →
           StepRight m k (length cells) (in_line m k lines width pixels) (Close n p) after (Answered (Drawing back) (Refused fault))
       closes_not back fault e cells_are =
           let t = close_refused m k sound law lines width pixels line cells right codes preview back fault e in
           let check : ready_check m (length cells) width n p (length pixels) ≡ Some fault =
-          ap (λ i. ready_check m (length cells) width i p (length pixels)) (sym codes_long) ∙ ap (λ i. ready_check m (length cells) width (length codes) i (length pixels)) (sym preview-long) ∙ t.0
+          ap (λ i. ready_check m (length cells) width i p (length pixels)) (sym codes_long) ∙ ap (λ i. ready_check m (length cells) width (length codes) i (length pixels)) (sym preview_long) ∙ t.0
           in (
             subst (λ ch. CloseRight m k ch (reverse pixels) (Refused fault)) (sym check) refl,
             subst (LineRight m k lines width pixels back) (sym cells_are) (subst (λ l. LineRight m k lines width pixels l cells) (sym t.1) right),
@@ -109,13 +109,13 @@ module _ {C : Type 0} (m : Meaning) (k : Kind C) (sound : Sound m) (law : Lawful
       pub closes : (plate : Plate C) (cost : C) (v : Vec ℕ Global) (w : Vec ℕ Global) (count : ℕ) → ◌≡◌ {A = Result (Plate C × C) (OpenLine C × Fault)} (Ok (plate, cost)) (closing m k line cells codes preview) →
           count ≡ pixels_of line → vec_items v ≡ take count (closed_codes m k line cells codes preview) → vec_items w ≡ take count (closed_preview m k line cells codes preview) →
           StepRight m k (length cells) (in_line m k lines width pixels) (Close n p) after (Answered (Resting plate) (Closed v w cost))
-      closes plate cost v w count e count-is codes_are preview-are =
-          let here = count-is ∙ has_pixels m k width pixels line cells right.drawn in
+      closes plate cost v w count e count_is codes_are preview_are =
+          let here = count_is ∙ has_pixels m k width pixels line cells right.drawn in
           let t = close_taken m k sound law lines width pixels line cells right codes preview plate cost e (vec_items v) (vec_items w)
-          (codes_are ∙ ap (λ i. take i (closed_codes m k line cells codes preview)) here) (preview-are ∙ ap (λ i. take i (closed_preview m k line cells codes preview)) here)
+          (codes_are ∙ ap (λ i. take i (closed_codes m k line cells codes preview)) here) (preview_are ∙ ap (λ i. take i (closed_preview m k line cells codes preview)) here)
           in
           let check : ready_check m (length cells) width n p (length pixels) ≡ None =
-          ap (λ i. ready_check m (length cells) width i p (length pixels)) (sym codes_long) ∙ ap (λ i. ready_check m (length cells) width (length codes) i (length pixels)) (sym preview-long) ∙ t.0
+          ap (λ i. ready_check m (length cells) width i p (length pixels)) (sym codes_long) ∙ ap (λ i. ready_check m (length cells) width (length codes) i (length pixels)) (sym preview_long) ∙ t.0
           in
           (subst (λ ch. CloseRight m k ch (reverse pixels) (Closed v w cost)) (sym check) t.1, t.2)
 

@@ -46,9 +46,9 @@ module _ {C : Type 0} (m : Meaning) (k : Kind C) (n : ℕ) where
           RightAt m k n (account_from new_account entries).closed (account_from new_account entries).stand (get_or calls i d) answer →
           Agrees m k (entered (account_from new_account entries) (get_or calls i d) answer) next after →
           more ≡ entries ++ record { call = get_or calls i d; answer = answer } ∷ [] → Recorded (i + 1) more next after
-      recorded_more d answer more next after h right agrees more-is =
+      recorded_more d answer more next after h right agrees more_is =
           let e : Entry C = record { call = get_or calls i d; answer = answer } in
-          subst (λ es. Recorded (i + 1) es next after) (sym more-is)
+          subst (λ es. Recorded (i + 1) es next after) (sym more_is)
           (record {
             made = map_push (λ e. e.call) entries e ∙ ap (λ cs. cs ++ get_or calls i d ∷ []) so_far.made ∙ sym (take_more calls i d h);
             right = right_push new_account entries e so_far.right right;

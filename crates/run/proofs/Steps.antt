@@ -120,17 +120,17 @@ module _ {C : Type 0} (m : Meaning) (k : Kind C) where
             (ready_check m (length cells) width (length codes) (length preview) (length pixels) ≡ None)
             × Best m k (record { pixels = reverse pixels; codes = cs; preview = ps; cost = cost })
             × PlateRight m k (record { pixels = reverse pixels; codes = cs; preview = ps; cost = cost } ∷ closed) plate
-        close_taken plate cost e cs ps cs-are ps-are =
+        close_taken plate cost e cs ps cs_are ps_are =
             let t = taken_back {A = Plate C × C} (close_check m k line cells codes preview) _ (plate, cost) line e in
             let cost_is : cost ≡ line_cost m k line cells = ap (λ y. y.1) t.1 in
-            let plate-is : plate ≡ with_line k line.plate (line_cost m k line cells) = ap (λ y. y.0) t.1 in
-            let best = closed_best m k width pixels line cells right.drawn sound law codes preview t.0 cs ps cost cs-are ps-are cost_is in (
+            let plate_is : plate ≡ with_line k line.plate (line_cost m k line cells) = ap (λ y. y.0) t.1 in
+            let best = closed_best m k width pixels line cells right.drawn sound law codes preview t.0 cs ps cost cs_are ps_are cost_is in (
               sym ready_is ∙ t.0,
               best,
               record {
-                lines = ap (λ p. p.lines) plate-is ∙ one_more line.plate.lines (length closed) right.plate.lines right.room;
+                lines = ap (λ p. p.lines) plate_is ∙ one_more line.plate.lines (length closed) right.plate.lines right.room;
                 few = right.room;
-                total = ap (λ p. p.total) plate-is ∙ ap (λ x. k.join line.plate.total x) (sym cost_is) ∙ ap (λ x. k.join x cost) right.plate.total;
+                total = ap (λ p. p.total) plate_is ∙ ap (λ x. k.join line.plate.total x) (sym cost_is) ∙ ap (λ x. k.join x cost) right.plate.total;
                 best = (best, right.plate.best);
               },
             )

@@ -80,9 +80,9 @@ module _ {C : Type 0} (m : Meaning) (k : Kind C) (line : OpenLine C) (cells : Li
         let none : all ≡ None = decided None last f in
         let pick : last ≡ picked = told_result (broken_cells m k pixels cells) (picked_state m k pixels cells) last f ∙ ap (λ n. picked_state m k n cells) is in
         let comes : (rest, cost) ≡ outcome = cc in
-        let sized-codes = length_back m k cells (codes_back m k cells) (λ _ cell. cell.code) (λ _. refl) (λ _ _. refl) in
-        let sized-colours = length_back m k cells (colours_back m k cells) (λ s _. m.shown s) (λ _. refl) (λ _ _. refl) in (
+        let sized_codes = length_back m k cells (codes_back m k cells) (λ _ cell. cell.code) (λ _. refl) (λ _ _. refl) in
+        let sized_colours = length_back m k cells (colours_back m k cells) (λ s _. m.shown s) (λ _. refl) (λ _ _. refl) in (
           ap Ok comes ∙ ap (λ check. answer_back check outcome line) (sym none),
-          front ∙ front_at (codes_back m k cells) sized-codes pixels last (pixels_of line) picked codes is pick ∙ renewed all coded codes none,
-          shown ∙ front_at (colours_back m k cells) sized-colours pixels last (pixels_of line) picked preview is pick ∙ renewed all previewed preview none,
+          front ∙ front_at (codes_back m k cells) sized_codes pixels last (pixels_of line) picked codes is pick ∙ renewed all coded codes none,
+          shown ∙ front_at (colours_back m k cells) sized_colours pixels last (pixels_of line) picked preview is pick ∙ renewed all previewed preview none,
         )

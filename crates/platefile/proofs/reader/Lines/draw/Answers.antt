@@ -20,10 +20,10 @@ returns-in-Line g c =
     let l : ClosedLine g.row.C.Denot = record { pixels = pixels_of_line c.args.pins.now targets; codes = vec_items c.in-Line.codes; preview = vec_items c.in-Line.preview; cost = c.in-Line.cost } in
     let draws = subst (λ n. Draws m k n s.heading.width (pixels_of_line c.args.pins.now targets) s.plate c.in-Line.plate l) same c.in-Line.ensures in
     record {
-      out = λ pinned pins-are here. record {
+      out = λ pinned pins_are here. record {
         line = l;
         out = drawn_out m k (length (vec_items s.cells)) s.heading.colours s.heading.width c.args.at input s.plate pinned c.args.pins.now targets
-            (line_here s.heading.colours s.heading.width (stage_after pinned) c.args.at input targets here.good here.marked here.body) pins-are
+            (line_here s.heading.colours s.heading.width (stage_after pinned) c.args.at input targets here.good here.marked here.body) pins_are
             c.in-Line.plate l draws c.lines-number.result _ _ c.lines-number.ensures refl
             (ap length (with_items_is s.cells c.draw_any.new.cells (c.draw_any.auto.cells ∙ c.as_mut_slice.ensures.len)) ∙ c.draw_any.auto.cells ∙ same);
         cost_is = refl;
@@ -42,8 +42,8 @@ returns-in-Refused g c =
     let input = s.input.now in
     let targets = c.args.targets.now in
     record {
-      out = λ pinned pins-are here. refused_out m k (length (vec_items s.cells)) s.heading.colours s.heading.width c.args.at input s.plate pinned c.args.pins.now targets
-          (line_here s.heading.colours s.heading.width (stage_after pinned) c.args.at input targets here.good here.marked here.body) pins-are
+      out = λ pinned pins_are here. refused_out m k (length (vec_items s.cells)) s.heading.colours s.heading.width c.args.at input s.plate pinned c.args.pins.now targets
+          (line_here s.heading.colours s.heading.width (stage_after pinned) c.args.at input targets here.good here.marked here.body) pins_are
           c.in-Refused.fault
           (subst (λ n. drawn_line m k n s.plate.lines s.heading.width (pixels_of_line c.args.pins.now targets) ≡ Err c.in-Refused.fault) (ap length c.as_mut_slice.ensures.value) c.in-Refused.ensures.0)
           c.lines-number.result c.lines-number.ensures;
