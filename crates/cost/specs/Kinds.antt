@@ -1,5 +1,5 @@
 -- The three cost kinds. The greatest number of 32 bits is called top.
-use Rattle.std.specs.Prelude.{ℕ, ◌+◌, ◌≤◌, min, max, Bool, cond, ◌&&◌, ◌||◌, ◌==◌, nat_le, nat_lt}
+use Rattle.std.specs.Prelude.{ℕ, ◌+◌, min, max, cond, ◌&&◌, ◌||◌, ◌==◌, nat_le, nat_lt}
 use Rattle.std.proofs.Common.{arith}
 use Rattle.cost.specs.Kind.{Kind}
 use Rattle.cost.specs.declared.summed.Summed.{Summed}

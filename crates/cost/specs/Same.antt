@@ -1,5 +1,5 @@
 -- Costs of equal numbers are equal, whatever shows that their numbers are small.
-use Rattle.std.specs.Prelude.{◌≡◌, ℕ, ◌≤◌}
+use Rattle.std.specs.Prelude.{◌≡◌, ◌≤◌}
 use mathlib.Core.HLevel.{is_prop→PathP}
 use Rattle.std.proofs.Math.Bridge.{le_prop}
 use Rattle.cost.specs.Kinds.{top}

@@ -1,5 +1,5 @@
 -- Levels, colours, targets, and the error of a pixel.
-use Rattle.std.specs.Prelude.{ℕ, ◌+◌, ◌-◌, ◌*◌, ◌/◌, ◌%◌, min, max, cond}
+use Rattle.std.specs.Prelude.{ℕ, ◌+◌, ◌-◌, ◌*◌, ◌/◌, ◌%◌, min, max}
 use Rattle.display.specs.declared.colour.Levels.{Levels}
 use Rattle.display.specs.declared.colour.Target.{Target}
 

@@ -1,5 +1,5 @@
 -- The three displays. Of each palette number only the low twelve bits count.
-use Rattle.std.specs.Prelude.{ℕ, ◌+◌, ◌-◌, ◌*◌, ◌/◌, ◌%◌, Bool, false, cond, ◌&&◌, List, Some, None, Option, ◌==◌, nat_le, nat_lt, slice_index}
+use Rattle.std.specs.Prelude.{ℕ, ◌-◌, ◌/◌, ◌%◌, false, cond, ◌&&◌, List, Some, None, ◌==◌, nat_le, nat_lt, slice_index}
 use Rattle.display.specs.Colours.{colour_of, red_of, green_of, blue_of}
 use Rattle.display.specs.Machine.{Meaning}
 use Rattle.display.specs.declared.ham.Ham.{Ham}

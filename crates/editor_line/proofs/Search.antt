@@ -1,10 +1,9 @@
 -- One more code of a search, and one more pixel of a line.
-use Rattle.std.proofs.Common.{◌≡◌, ℕ, ◌+◌, ◌*◌, ◌/◌, ◌<◌, ◌≤◌, ◌⊎◌, List, [], ◌∷◌, ◌++◌, length, drop, Some, None, Option, sym, refl, ap, ◌∙◌, subst, inl, inr, append_assoc, append-nil, arith, length-drop}
+use Rattle.std.proofs.Common.{◌≡◌, ℕ, ◌+◌, ◌*◌, ◌/◌, ◌<◌, ◌⊎◌, List, [], ◌∷◌, ◌++◌, length, drop, Some, None, Option, refl, ap, ◌∙◌, subst, inl, inr, append_assoc, append-nil, arith, length-drop}
 use Rattle.std.proofs.lemmas.Bool.{cases_lt, le-leb, lt-leb}
 use Rattle.display.specs.Colours.{error_of, levels_of}
 use Rattle.display.specs.Machine.{Meaning, Steps}
 use Rattle.display.specs.declared.colour.Levels.{Levels}
-use Rattle.display.specs.declared.colour.Target.{Target}
 use Rattle.lines.specs.Lines.{targets_of}
 use Rattle.lines.proofs.Walks.{three_more}
 use Rattle.editor_line.specs.declared.nearest.Choice.{Choice}

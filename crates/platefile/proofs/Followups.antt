@@ -1,5 +1,5 @@
 -- What comes out next of what is left of a file, by the record that stands there.
-use Rattle.std.proofs.Common.{◌≡◌, ℕ, suc, ◌+◌, Bool, true, false, cond, eqb, List, [], ◌∷◌, length, drop, Some, None, vec_items, Option, sym, refl, ap, ◌∙◌, subst}
+use Rattle.std.proofs.Common.{◌≡◌, ℕ, ◌+◌, Bool, true, false, cond, eqb, List, [], ◌∷◌, length, drop, Some, None, vec_items, Option, sym, ap, ◌∙◌, subst}
 use Rattle.cost.specs.Kind.{Kind}
 use Rattle.trellis.specs.declared.plate.Report.{Report}
 use Rattle.records.specs.declared.fault.FileFault.{FileFault}
@@ -9,7 +9,7 @@ use Rattle.platefile.specs.declared.reader.Next.{Next}
 use Rattle.platefile.specs.declared.reader.Next.TheVariants.{Total, Fault}
 use Rattle.records.specs.Letters.{meaning_of}
 use Rattle.records.specs.Records.{body_at, record_check, pins_right}
-use Rattle.platefile.specs.Files.{Output, total_out, fault_out, stage_after, outputs_from}
+use Rattle.platefile.specs.Files.{total_out, fault_out, stage_after}
 use Rattle.platefile.specs.Reading.{OutRight, NextRight, Shortens, left_outputs, outputs_at, misplaced_at, out_of_range_at}
 use Rattle.platefile.proofs.Nexts.{stops_here, pins_refused}
 use Rattle.platefile.proofs.Readers.{Stands, pins_out, end_out}

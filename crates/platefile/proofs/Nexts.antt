@@ -1,5 +1,5 @@
 -- What comes out next, by the record that stands there.
-use Rattle.std.proofs.Common.{◌≡◌, ℕ, suc, ◌+◌, ◌<◌, Bool, true, false, cond, eqb, List, [], ◌∷◌, length, Some, None, Ok, Err, Option, unwrap_or, sym, refl, ap, ◌∙◌, arith}
+use Rattle.std.proofs.Common.{◌≡◌, ℕ, suc, ◌+◌, Bool, true, false, cond, eqb, List, [], ◌∷◌, length, Some, None, Ok, Err, Option, unwrap_or, ap, ◌∙◌, arith}
 use Rattle.cost.specs.Kind.{Kind}
 use Rattle.display.specs.Machine.{Meaning}
 use Rattle.lines.specs.declared.fault.Fault.{Fault}

@@ -1,7 +1,7 @@
 -- What comes out of a file does not depend on how far is counted, and keeps the promise.
-use Rattle.std.proofs.Common.{◌≡◌, ℕ, zero, suc, ◌+◌, ◌<◌, ◌≤◌, Bool, true, false, cond, eqb, ltb, ◌⊎◌, List, [], ◌∷◌, length, drop, Some, None, Ok, Err, Option, Result, unwrap_or, sym, refl, ap, ◌∙◌, subst, inl, inr, ⊎_elim, add-one, arith, length-drop}
+use Rattle.std.proofs.Common.{◌≡◌, ℕ, zero, suc, ◌+◌, ◌<◌, ◌≤◌, Bool, true, false, cond, eqb, ltb, ◌⊎◌, List, [], ◌∷◌, length, Some, None, Ok, Err, Option, Result, unwrap_or, sym, refl, ap, ◌∙◌, subst, inl, inr, ⊎_elim, add-one, arith, length-drop}
 use Rattle.std.specs.List.{AllByRecursion as All}
-use Rattle.std.proofs.lemmas.Bool.{cases_Bool, true≢false, ltb-false}
+use Rattle.std.proofs.lemmas.Bool.{true≢false, ltb-false}
 use Rattle.cost.specs.Kind.{Kind, Lawful}
 use Rattle.display.specs.Machine.{Meaning, Lawful as Sound}
 use Rattle.lines.specs.declared.fault.Fault.{Fault}
@@ -17,7 +17,7 @@ use Rattle.records.specs.declared.record.Stage.{Stage}
 use Rattle.records.specs.Records.{mark_at, body_at, length_at, after_record, record_check, mark_check, pins_right}
 use Rattle.platefile.specs.Pixels.{pixels_of_line}
 use Rattle.one_line.specs.Drawing.{drawn_line}
-use Rattle.platefile.specs.Files.{Output, line_out, total_out, fault_out, stage_after, Going, on_drawn, on_mark, on_record, outputs_from, outputs, Kept}
+use Rattle.platefile.specs.Files.{line_out, total_out, fault_out, stage_after, Going, on_drawn, on_mark, on_record, outputs_from, Kept}
 
 -- a record that passes its checks leaves less to read
 pub shorter : (colours width : ℕ) (stage : Stage) (at : ℕ) (rest : List ℕ) → record_check colours width stage at rest ≡ None → length (after_record rest) < length rest

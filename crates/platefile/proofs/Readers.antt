@@ -1,5 +1,5 @@
 -- The records of a file's lines, as cut gives them, and what comes out of them.
-use Rattle.std.proofs.Common.{◌≡◌, ℕ, suc, ◌+◌, ◌-◌, ◌*◌, ◌<◌, ◌≤◌, Bool, true, false, cond, eqb, List, [], ◌∷◌, length, take, drop, Some, None, Ok, Err, Option, unwrap_or, sym, refl, ap, ◌∙◌, subst, arith, length-drop, Bor}
+use Rattle.std.proofs.Common.{◌≡◌, ℕ, suc, ◌+◌, ◌-◌, ◌*◌, ◌≤◌, true, cond, eqb, List, [], ◌∷◌, length, drop, Some, None, Err, Option, unwrap_or, sym, refl, ap, ◌∙◌, subst, arith, length-drop, Bor}
 use Rattle.std.proofs.lemmas.List.{drop-drop, length-take-le}
 use Rattle.std.proofs.lemmas.Bool.{eqb-true}
 use Rattle.std.proofs.lemmas.Bool.Decides.{nat_tests}
@@ -12,8 +12,7 @@ use Rattle.records.specs.declared.fault.FileFault.TheVariants.{Plate}
 use Rattle.records.specs.declared.fault.PlateFault.TheVariants.{Trellis}
 use Rattle.records.specs.declared.record.Mark.{Mark}
 use Rattle.records.specs.declared.record.Mark.TheVariants.{Header, Palette, Pins, Line, End}
-use Rattle.records.specs.declared.record.Record.{Record}
-use Rattle.records.specs.declared.record.Record.TheVariants.{Header as header, Palette as palette, Pins as pins, Line as line, End as end}
+use Rattle.records.specs.declared.record.Record.TheVariants.{Pins as pins, Line as line, End as end}
 use Rattle.records.specs.declared.record.Stage.{Stage}
 use Rattle.records.specs.Records.{RecordIs, asks, mark_at, body_at, length_at, after_record, record_check, pins_right}
 use Rattle.platefile.specs.Pixels.{pixels_of_line}

@@ -1,5 +1,5 @@
 -- What a plate file comes to.
-use Rattle.std.specs.Prelude.{◌≡◌, ℕ, zero, suc, ◌+◌, Bool, cond, List, [], ◌∷◌, length, Some, None, Ok, Err, Option, Result, ◌==◌}
+use Rattle.std.specs.Prelude.{◌≡◌, ℕ, zero, suc, ◌+◌, cond, List, [], ◌∷◌, length, Some, None, Ok, Err, Option, Result, ◌==◌}
 use Rattle.std.specs.Option.{unwrap_or}
 use Rattle.cost.specs.Kind.{Kind}
 use Rattle.display.specs.Machine.{Meaning}
@@ -8,8 +8,7 @@ use Rattle.run.specs.Account.{ClosedLine}
 use Rattle.run.specs.Promise.{Reports}
 use Rattle.run.specs.Rivals.{Best}
 use Rattle.records.specs.declared.fault.FileFault.{FileFault}
-use Rattle.records.specs.declared.fault.FileFault.TheVariants.{TooLong, Plate}
-use Rattle.records.specs.declared.fault.LineFault.{LineFault}
+use Rattle.records.specs.declared.fault.FileFault.TheVariants.{Plate}
 use Rattle.records.specs.declared.fault.PlateFault.TheVariants.{Misplaced, OutOfRange, Trellis}
 use Rattle.records.specs.declared.record.Mark.{Mark}
 use Rattle.records.specs.declared.record.Mark.TheVariants.{Header, Palette, Pins, Line, End}

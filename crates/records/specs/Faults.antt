@@ -2,7 +2,7 @@
 use Rattle.std.specs.Prelude.{ℕ}
 use Rattle.lines.specs.Faults.{number_of, layer_of}
 use Rattle.lines.specs.declared.fault.Layer.{Layer}
-use Rattle.lines.specs.declared.fault.Layer.TheVariants.{Trellis as in_trellis, Plate as in_plate, File as in_file}
+use Rattle.lines.specs.declared.fault.Layer.TheVariants.{Plate as in_plate, File as in_file}
 use Rattle.records.specs.declared.fault.FileFault.{FileFault}
 use Rattle.records.specs.declared.fault.FileFault.TheVariants.{TooLong, NoRecord, UnknownMark, BadLength, PastEnd, Plate}
 use Rattle.records.specs.declared.fault.PlateFault.{PlateFault}

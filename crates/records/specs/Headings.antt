@@ -1,5 +1,5 @@
 -- What stands before the lines of a plate file: HD and PL.
-use Rattle.std.specs.Prelude.{ℕ, ◌+◌, cond, List, [], length, drop, Some, None, Ok, Err, Option, Result, nat_lt, slice_index}
+use Rattle.std.specs.Prelude.{ℕ, ◌+◌, cond, List, length, drop, Some, None, Ok, Err, Option, Result, nat_lt, slice_index}
 use Rattle.std.specs.Option.{unwrap_or}
 use Rattle.records.specs.declared.display_kind.CostKind.TheVariants.{Summed}
 use Rattle.records.specs.declared.display_kind.MachineKind.{MachineKind}
@@ -10,7 +10,7 @@ use Rattle.records.specs.declared.fault.PlateFault.TheVariants.{OutOfRange}
 use Rattle.records.specs.declared.heading.Heading.{Heading}
 use Rattle.records.specs.declared.record.Stage.TheVariants.{Header as at_header, Palette as at_palette}
 use Rattle.records.specs.Letters.{machine_of, cost_of_letter, colours_of, number_of_bytes, words, display_of}
-use Rattle.records.specs.Records.{body_at, length_at, after_record, record_check, header_right, palette_right}
+use Rattle.records.specs.Records.{body_at, length_at, record_check, header_right, palette_right}
 
 -- one check, and then another
 abbrev pub then_check : Option FileFault → Option FileFault → Option FileFault

@@ -1,5 +1,5 @@
 -- Records: a mark of two bytes, the body's length in two bytes, the low byte first, and the body.
-use Rattle.std.specs.Prelude.{◌≡◌, ℕ, ◌+◌, ◌*◌, ◌%◌, Bool, true, false, cond, ◌&&◌, ◌||◌, List, [], ◌∷◌, length, take, drop, is_some, Some, None, Option, ◌==◌, nat_le, nat_lt, slice_index}
+use Rattle.std.specs.Prelude.{◌≡◌, ℕ, ◌+◌, ◌*◌, ◌%◌, Bool, true, cond, ◌&&◌, List, [], ◌∷◌, length, take, drop, is_some, Some, None, Option, ◌==◌, nat_le, nat_lt, slice_index}
 use Rattle.trellis.specs.Calls.{widest}
 use Rattle.records.specs.declared.fault.FileFault.{FileFault}
 use Rattle.records.specs.declared.fault.FileFault.TheVariants.{NoRecord, UnknownMark, BadLength, PastEnd, Plate}

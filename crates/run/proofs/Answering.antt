@@ -1,12 +1,10 @@
 -- What each call of a run leaves, as the contracts of its steps say it.
-use Rattle.std.proofs.Common.{◌≡◌, ℕ, List, [], ◌∷◌, reverse, length, take, Some, None, Ok, Err, vec_items, Option, Result, Vec, sym, refl, ap, ◌∙◌, subst, arith}
+use Rattle.std.proofs.Common.{◌≡◌, ℕ, List, [], ◌∷◌, reverse, length, take, Some, None, Ok, Err, vec_items, Option, Result, Vec, sym, refl, ap, ◌∙◌, subst}
 use Rattle.std.specs.declared.alloc.Global.{Global}
-use Rattle.std.proofs.lemmas.Bool.Decides.{nat_tests}
 use Rattle.cost.specs.Kind.{Kind, Lawful}
 use Rattle.display.specs.Machine.{Meaning, Lawful as Sound}
 use Rattle.display.specs.declared.colour.Target.{Target}
 use Rattle.lines.specs.Checks.{answer}
-use Rattle.lines.specs.Faults.{number_of}
 use Rattle.lines.specs.declared.fault.Fault.{Fault}
 use Rattle.trellis.specs.declared.plate.OpenLine.{OpenLine}
 use Rattle.trellis.specs.declared.plate.Plate.{Plate}
@@ -17,7 +15,6 @@ use Rattle.run.specs.declared.entry.Answer.{Answer}
 use Rattle.run.specs.declared.entry.Answer.TheVariants.{Taken, Closed, Reported, Refused}
 use Rattle.run.specs.declared.entry.Call.{Call}
 use Rattle.run.specs.declared.entry.Call.TheVariants.{Start, Pixel, Pin, Back, Close, Abandon, Report}
-use Rattle.run.specs.declared.state.State.{State}
 use Rattle.run.specs.declared.state.State.TheVariants.{Resting, Drawing, Ended}
 use Rattle.run.specs.declared.state.Step.{Step}
 use Rattle.run.specs.declared.state.Step.TheVariants.{Answered}

@@ -12,7 +12,7 @@ use Rattle.display.specs.declared.colour.Target.{Target}
 use Rattle.lines.specs.Lines.{after_code, preview_of, price_at, cost_of}
 use Rattle.trellis.specs.Stages.{permitted, stage}
 use Rattle.viterbi.specs.declared.Cell.{Cell}
-use Rattle.viterbi.specs.Ways.{Stage, Way, begin, on, codes, states, way_cost}
+use Rattle.viterbi.specs.Ways.{Way, begin, on, codes, states, way_cost}
 use Rattle.viterbi.specs.Columns.{at, pick, passable, last_column, traced_codes, traced_states}
 use Rattle.viterbi.specs.Totals.{total, EachAtMost}
 use Rattle.viterbi.specs.Theorems.{Within}

@@ -1,6 +1,6 @@
 -- The record of a run, entry by entry.
 use Rattle.std.proofs.Common.{◌≡◌, ℕ, ◌+◌, ◌<◌, ◌≤◌, false, List, [], ◌∷◌, ◌++◌, map, length, get_or, take, drop, sym, refl, ap, ◌∙◌, subst, arith}
-use Rattle.std.proofs.lemmas.List.{map_push, take_more, take_all, drop_all, drop_more, length-map, length-take-le}
+use Rattle.std.proofs.lemmas.List.{map_push, take_more, drop_all, drop_more, length-map, length-take-le}
 use Rattle.cost.specs.Kind.{Kind}
 use Rattle.display.specs.Machine.{Meaning}
 use Rattle.trellis.specs.declared.plate.Plate.{Plate}

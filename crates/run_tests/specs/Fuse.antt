@@ -1,5 +1,5 @@
 -- The fuse. State 0 is dark, 1 glows, 2 is burnt; state n shows colour n.
-use Rattle.std.specs.Prelude.{ℕ, ◌+◌, cond, ◌&&◌, Some, None, ◌==◌, nat_lt}
+use Rattle.std.specs.Prelude.{◌+◌, cond, ◌&&◌, Some, None, ◌==◌, nat_lt}
 use Rattle.display.specs.Displays.{register}
 use Rattle.display.specs.Machine.{Meaning}
 use Rattle.run_tests.specs.declared.fuse.Fuse.{Fuse}

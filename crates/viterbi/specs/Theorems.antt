@@ -1,5 +1,5 @@
 -- What is proved of the columns, for every lawful cost kind on C.
-use Rattle.std.specs.Prelude.{◌≡◌, ℕ, ◌<◌, true, false, ◌↔◌, List, [], ◌∷◌, Some, None}
+use Rattle.std.specs.Prelude.{◌≡◌, ℕ, ◌<◌, true, false, ◌↔◌, List, ◌∷◌, Some, None}
 use Rattle.std.specs.List.{AllByRecursion as All}
 use Rattle.cost.specs.Kind.{Kind, Lawful, AtMost}
 use Rattle.viterbi.specs.declared.Cell.{Cell}

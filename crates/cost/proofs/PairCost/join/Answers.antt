@@ -1,6 +1,5 @@
-use Rattle.std.proofs.Common.{◌≡◌, ℕ, ◌+◌, ◌≤◌, min, sym, ap, ◌∙◌, arith}
+use Rattle.std.proofs.Common.{arith}
 use Rattle.std.proofs.lemmas.Bool.Decides.{nat_tests}
-use Rattle.cost.specs.Kinds.{top}
 use Rattle.cost.specs.Same.{same_pair}
 use Rattle.cost.proofs.PairCost.join.Goals as goal
 use Rattle.cost.proofs.PairCost.join.Goals.{in-Some, in-None}

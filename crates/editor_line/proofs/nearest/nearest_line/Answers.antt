@@ -1,4 +1,4 @@
-use Rattle.std.proofs.Common.{◌≡◌, ◌+◌, ◌++◌, vec_items, sym, ap, ◌∙◌, subst, arith}
+use Rattle.std.proofs.Common.{◌+◌, ◌++◌, vec_items, sym, ap, ◌∙◌, subst, arith}
 use Rattle.display.specs.Colours.{levels_of}
 use Rattle.lines.specs.Lines.{targets_of}
 use Rattle.editor_line.specs.Nearest.{NearestLine}

@@ -1,4 +1,4 @@
-use Rattle.std.proofs.Common.{◌≡◌, Some, ap, ◌∙◌, inl, inr, zero-add, arith}
+use Rattle.std.proofs.Common.{Some, ap, ◌∙◌, inl, inr, zero-add}
 use Rattle.lines.specs.declared.fault.Fault.TheVariants.{UnknownCode, NoStep}
 use Rattle.lines.proofs.Walks.{length-preview}
 use Rattle.lines.proofs.Places.{unknown_place, stuck_place}

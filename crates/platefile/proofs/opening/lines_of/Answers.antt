@@ -1,4 +1,4 @@
-use Rattle.std.proofs.Common.{◌≡◌, suc, [], length, drop, None, vec_items, sym, refl, ap, ◌∙◌, arith}
+use Rattle.std.proofs.Common.{suc, [], length, drop, None, sym, refl, ap, ◌∙◌, arith}
 use Rattle.records.specs.Letters.{meaning_of}
 use Rattle.platefile.specs.Files.{outputs}
 use Rattle.platefile.proofs.Outputs.{kept_from}

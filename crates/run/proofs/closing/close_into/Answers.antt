@@ -1,4 +1,4 @@
-use Rattle.std.proofs.Common.{◌≡◌, length, ap, ◌∙◌, ap₂}
+use Rattle.std.proofs.Common.{length, ap, ◌∙◌, ap₂}
 use Rattle.std.proofs.lemmas.List.{with_items_is}
 use Rattle.trellis.specs.Calls.{closed as closing, closed_codes, closed_preview}
 use Rattle.run.proofs.closing.close_into.Goals as goal

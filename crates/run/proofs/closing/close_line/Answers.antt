@@ -1,4 +1,4 @@
-use Rattle.std.proofs.Common.{◌≡◌, length, take, vec_items, sym, refl, ap, ◌∙◌}
+use Rattle.std.proofs.Common.{length, take, vec_items, refl, ap, ◌∙◌}
 use Rattle.std.proofs.lemmas.List.{length-replicate}
 use Rattle.run.proofs.Answering.{closes, closes_not}
 use Rattle.run.proofs.closing.close_line.Goals as goal

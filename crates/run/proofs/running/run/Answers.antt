@@ -1,4 +1,4 @@
-use Rattle.std.proofs.Common.{◌≡◌, length, get_or, vec_items, sym, ap, ◌∙◌, subst, arith}
+use Rattle.std.proofs.Common.{length, get_or, vec_items, sym, subst, arith}
 use Rattle.run.specs.declared.entry.Call.TheVariants.{Start}
 use Rattle.run.specs.declared.state.State.TheVariants.{Resting}
 use Rattle.run.specs.Account.{new_account, account_from}

@@ -1,4 +1,4 @@
-use Rattle.std.proofs.Common.{◌≡◌, Some, ap, ◌∙◌}
+use Rattle.std.proofs.Common.{Some, ap, ◌∙◌}
 use Rattle.run.specs.Agreement.{plain}
 use Rattle.run.proofs.Answering.{adds}
 use Rattle.run.proofs.step.add_pin.Goals as goal

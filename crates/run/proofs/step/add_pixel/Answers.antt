@@ -1,4 +1,4 @@
-use Rattle.std.proofs.Common.{◌≡◌, None, ap, ◌∙◌}
+use Rattle.std.proofs.Common.{None, ap, ◌∙◌}
 use Rattle.run.specs.Agreement.{plain}
 use Rattle.run.proofs.Answering.{adds}
 use Rattle.run.proofs.step.add_pixel.Goals as goal

@@ -1,4 +1,4 @@
-use Rattle.std.proofs.Common.{◌≡◌, List, length, sym, refl, subst}
+use Rattle.std.proofs.Common.{length, sym, refl, subst}
 use Rattle.run.specs.Agreement.{StepRight, in_line}
 use Rattle.run.proofs.Answering.{strikes, abandons}
 use Rattle.run.proofs.step.call_line.Goals as goal

@@ -1,4 +1,3 @@
-use Rattle.std.proofs.Common.{◌≡◌, sym, subst}
 use Rattle.run.proofs.Answering.{reports}
 use Rattle.run.proofs.step.call_plate.Goals as goal
 

@@ -1,4 +1,4 @@
-use Rattle.std.proofs.Common.{◌≡◌, length, subst}
+use Rattle.std.proofs.Common.{length, subst}
 use Rattle.run.specs.Agreement.{Agrees}
 use Rattle.run.proofs.Answering.{from_rest, from_line}
 use Rattle.run.proofs.step.make_call.Goals as goal

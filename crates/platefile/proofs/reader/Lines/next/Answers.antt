@@ -1,4 +1,4 @@
-use Rattle.std.proofs.Common.{◌≡◌, ℕ, ◌+◌, true, false, cond, eqb, length, drop, Some, None, sym, refl, ap, ◌∙◌, subst, ⊎_elim, arith}
+use Rattle.std.proofs.Common.{◌≡◌, ◌+◌, cond, eqb, length, Some, None, refl, ap, ◌∙◌, subst, ⊎_elim, arith}
 use Rattle.std.proofs.lemmas.Bool.{cases_Bool}
 use Rattle.records.specs.declared.record.Stage.TheVariants.{Lines as at_lines}
 use Rattle.records.specs.declared.record.Record.TheVariants.{Pins, Line, End}
@@ -6,7 +6,7 @@ use Rattle.platefile.specs.declared.reader.Next.TheVariants.{Total, Fault}
 use Rattle.records.specs.Cutting.{Taken}
 use Rattle.records.specs.Records.{pins_right, record_check}
 use Rattle.platefile.specs.Reading.{misplaced_at}
-use Rattle.platefile.proofs.Readers.{Stands, line_stands, pins_stand, end_fits, end_stands, three_each}
+use Rattle.platefile.proofs.Readers.{line_stands, pins_stand, end_fits, end_stands, three_each}
 use Rattle.platefile.proofs.Followups.{stopped, pinned, badly_pinned, ended, ends_short}
 use Rattle.platefile.proofs.reader.Lines.next.Goals as goal
 

@@ -4,7 +4,7 @@ use Rattle.records.specs.declared.record.Stage.TheVariants.{Pinned}
 use Rattle.records.specs.declared.record.Record.TheVariants.{Line}
 use Rattle.records.specs.Cutting.{Taken}
 use Rattle.records.specs.Records.{pins_right, record_check}
-use Rattle.platefile.proofs.Readers.{Stands, line_stands, three_each}
+use Rattle.platefile.proofs.Readers.{line_stands, three_each}
 use Rattle.platefile.proofs.Followups.{stopped}
 use Rattle.platefile.proofs.reader.Lines.next_pinned.Goals as goal
 
