@@ -78,7 +78,7 @@ fn a_dearer_state_ties(rt: HostRuntime) -> Result<(), Fail> {
     let Some(best) = found else {
         return Err(Fail::new("no line"));
     };
-    assert_eq!(rt; best.codes.as_slice(), &[0, 1, 1]);
+    assert_eq!(rt; best.codes.as_slice(), [0u8, 1, 1].as_slice());
     assert_eq!(rt; best.cost.error, 49);
     let mut cells = littered::<Worst>(rt.alloc(), 4 * 3)?;
     assert_eq!(rt;
