@@ -1,6 +1,6 @@
 -- The first place at which a check on codes finds a fault.
 use Rattle.std.proofs.Common.{◌≡◌, ℕ, suc, ◌+◌, ◌<◌, ◌≤◌, ◌⊎◌, List, [], ◌∷◌, length, get_or, take, is_some, Some, None, refl, ap, ◌∙◌, inl, inr, arith}
-use Rattle.std.specs.List.{AllByRecursion as All}
+use Rattle.std.specs.List.{AllByRecursion}
 use Rattle.std.proofs.lemmas.Bool.{cases_Bool, cases_lt, le-leb, lt-leb, both_ways}
 use Rattle.display.specs.Machine.{Meaning}
 use Rattle.lines.specs.declared.fault.Fault.TheVariants.{UnknownCode, NoStep}
@@ -11,8 +11,8 @@ further : (n i : ℕ) → n + 1 + i ≡ n + suc i
 further n i = omega arith
 
 pub unknown_place : (K n : ℕ) (cs : List ℕ) →
-    ((unknown_from K n cs ≡ None) × All (λ c. c < K) cs)
-    ⊎ ((i : ℕ) × (unknown_from K n cs ≡ Some (UnknownCode (n + i))) × (i < length cs) × (K ≤ get_or cs i 0) × All (λ c. c < K) (take i cs))
+    ((unknown_from K n cs ≡ None) × AllByRecursion (λ c. c < K) cs)
+    ⊎ ((i : ℕ) × (unknown_from K n cs ≡ Some (UnknownCode (n + i))) × (i < length cs) × (K ≤ get_or cs i 0) × AllByRecursion (λ c. c < K) (take i cs))
 unknown_place K n [] = inl (refl, tt)
 unknown_place K n (c ∷ cs) =
     elim (cases_lt c K) [

@@ -1,6 +1,6 @@
 -- What comes out of a file does not depend on how far is counted, and keeps the promise.
 use Rattle.std.proofs.Common.{◌≡◌, ℕ, zero, suc, ◌+◌, ◌<◌, ◌≤◌, Bool, true, false, cond, eqb, ltb, ◌⊎◌, List, [], ◌∷◌, length, Some, None, Ok, Err, Option, Result, unwrap_or, sym, refl, ap, ◌∙◌, subst, inl, inr, ⊎_elim, add-one, arith, length-drop}
-use Rattle.std.specs.List.{AllByRecursion as All}
+use Rattle.std.specs.List.{AllByRecursion}
 use Rattle.std.proofs.lemmas.Bool.{true≢false, ltb-false}
 use Rattle.cost.specs.Kind.{Kind, Lawful}
 use Rattle.display.specs.Machine.{Meaning, Lawful as Sound}
@@ -77,8 +77,8 @@ module _ {C : Type 0} (m : Meaning) (k : Kind C) (cells colours width : ℕ) whe
       (none_or (record_check colours width (stage_after pins) at rest))
 
   module _ (sound : Sound m) (law : Lawful k) (drawn_best : (lines : ℕ) (pixels : List Wanted) (line : ClosedLine C) → drawn_line m k cells lines width pixels ≡ Ok line → Best m k line) where
-    module _ (go : Going m k cells colours width) (at : ℕ) (rest : List ℕ) (closed : List (ClosedLine C)) (best : All (Best m k) closed)
-        (later : (i : ℕ) (p : Option (List ℕ)) (more : List (ClosedLine C)) → All (Best m k) more → Kept m k cells colours width more (go i (after_record rest) p (length more) (total_of m k more))) where
+    module _ (go : Going m k cells colours width) (at : ℕ) (rest : List ℕ) (closed : List (ClosedLine C)) (best : AllByRecursion (Best m k) closed)
+        (later : (i : ℕ) (p : Option (List ℕ)) (more : List (ClosedLine C)) → AllByRecursion (Best m k) more → Kept m k cells colours width more (go i (after_record rest) p (length more) (total_of m k more))) where
       kept_drawn : (pixels : List Wanted) (r : Result (ClosedLine C) Fault) → drawn_line m k cells (length closed) width pixels ≡ r →
           Kept m k cells colours width closed (on_drawn m k cells colours width go at rest (length closed) (total_of m k closed) r)
       kept_drawn pixels (Ok line) e =
@@ -110,7 +110,7 @@ module _ {C : Type 0} (m : Meaning) (k : Kind C) (cells colours width : ℕ) whe
       kept_mark pins (Some Line) e = kept_drawn (pixels_of_line (unwrap_or pins []) (body_at rest)) _ refl
       kept_mark pins (Some End) e = kept_end (eqb (length (after_record rest)) 0)
 
-    pub kept_from : (s at : ℕ) (rest : List ℕ) (pins : Option (List ℕ)) (closed : List (ClosedLine C)) → length rest < s → All (Best m k) closed →
+    pub kept_from : (s at : ℕ) (rest : List ℕ) (pins : Option (List ℕ)) (closed : List (ClosedLine C)) → length rest < s → AllByRecursion (Best m k) closed →
         Kept m k cells colours width closed (outputs_from m k cells colours width s at rest pins (length closed) (total_of m k closed))
     kept_from zero at rest pins closed h best = absurd (omega arith)
     kept_from (suc s) at rest pins closed h best =

@@ -2,7 +2,7 @@
 use Rattle.std.proofs.Common.{◌≡◌, ℕ, ◌<◌, true, eqb, ◌↔◌, List, [], ◌∷◌, map, reverse, is_some, Some, None, Option, sym, refl, ap, ◌∙◌, ap₂, ⊎_elim, arith}
 use mathlib.Core.List.{reverse-cons, reverse-reverse}
 use lib.ListN.{length-reverse, length-map}
-use Rattle.std.specs.List.{AllByRecursion as All}
+use Rattle.std.specs.List.{AllByRecursion}
 use Rattle.std.proofs.lemmas.List.{map_push}
 use Rattle.std.proofs.lemmas.Bool.{true≢false, eqb-true, eq-eqb, cond_both, cases_lt}
 use Rattle.cost.specs.Kind.{Kind, AtMost, Lawful}
@@ -53,7 +53,7 @@ module _ {C : Type 0} (m : Meaning) (k : Kind C) where
   column_of ps = last_column k m.states m.codes m.start (stages_of m k ps)
 
   -- a lawful machine's stages lead to its states
-  pub within : LawfulMachine m → (ps : List Wanted) → All (Within m.states m.codes) (stages_of m k ps)
+  pub within : LawfulMachine m → (ps : List Wanted) → AllByRecursion (Within m.states m.codes) (stages_of m k ps)
   within law [] = tt
   within law (p ∷ ps) = (λ s c t _ _ e. law.next_below s c t ((permitted_keeps m p.pin s c t).0 e).0, within law ps)
 
@@ -152,12 +152,12 @@ module _ {C : Type 0} (m : Meaning) (k : Kind C) where
         )
 
   -- no other choice of rivals totals less than the best lines
-  pub choice_above : (closed : List (ClosedLine C)) → All (Best m k) closed → (others : List (List ℕ)) → Choice m k closed others → EachAtMost k (map (λ line. line.cost) closed) (choice_costs m k closed others)
+  pub choice_above : (closed : List (ClosedLine C)) → AllByRecursion (Best m k) closed → (others : List (List ℕ)) → Choice m k closed others → EachAtMost k (map (λ line. line.cost) closed) (choice_costs m k closed others)
   choice_above [] best [] choice = tt
   choice_above [] best (other ∷ others) choice = absurd choice
   choice_above (line ∷ closed) best [] choice = absurd choice
   choice_above (line ∷ closed) best (other ∷ others) choice = (best.0.least other choice.0, choice_above closed best.1 others choice.1)
 
-  pub reports_least : Lawful k → (closed : List (ClosedLine C)) → All (Best m k) closed → (others : List (List ℕ)) → Choice m k closed others →
+  pub reports_least : Lawful k → (closed : List (ClosedLine C)) → AllByRecursion (Best m k) closed → (others : List (List ℕ)) → Choice m k closed others →
       AtMost k (total_of m k closed) (total k (choice_costs m k closed others))
   reports_least law closed best others choice = totals_grow k law _ _ (choice_above closed best others choice)

@@ -1,7 +1,7 @@
 -- The cells hold the columns of a line, and the way back through them is the way back through the columns.
 use Rattle.std.proofs.Common.{◌≡◌, ℕ, suc, ◌+◌, ◌*◌, ◌<◌, ◌≤◌, true, List, [], ◌∷◌, map, reverse, length, take, drop, Some, None, Option, sym, refl, ap, ◌∙◌, suc-mul, zero-mul, arith}
 use mathlib.Core.List.{reverse-cons}
-use Rattle.std.specs.List.{AllByRecursion as All}
+use Rattle.std.specs.List.{AllByRecursion}
 use Rattle.std.proofs.lemmas.List.{length-append, length-take, length-take-le, length-drop, take-append-le, take-take, take_at, drop_at, drop-take}
 use Rattle.std.proofs.lemmas.Bool.{and_from, eq-eqb, cond_both}
 use Rattle.cost.specs.Kind.{Kind, Lawful}
@@ -93,7 +93,7 @@ module _ {C : Type 0} (m : Meaning) (k : Kind C) where
     holds_cost qs held t = ap (λ column. at k column t) (holds_last cells qs held)
 
     -- the way back from a reached state is sound, and each way back has the codes and the colours of the way traced
-    pub back_sound : (qs : List (Stage C)) → Lawful k → m.start < m.states → Holds m k cells qs → All Follows qs → (t : ℕ) →
+    pub back_sound : (qs : List (Stage C)) → Lawful k → m.start < m.states → Holds m k cells qs → AllByRecursion Follows qs → (t : ℕ) →
         (at k (last_column k m.states m.codes m.start qs) t).reached ≡ true → sound_back m k cells (length qs) t ≡ true
     back_sound [] law here held follows t r =
         rw held (and_from _ _ r (eq-eqb t m.start (unmoved (way_back k law m.states m.codes m.start here [] t r).way)))

@@ -2,7 +2,7 @@
 use Rattle.std.proofs.Common.{◌≡◌, ℕ, suc, ◌+◌, ◌-◌, ◌*◌, ◌<◌, ◌≤◌, Bool, true, false, cond, List, [], ◌∷◌, map, reverse, length, take, drop, Some, None, Option, unwrap_or, sym, refl, ap, ◌∙◌, subst, arith}
 use Rattle.std.proofs.lemmas.List.{length-map, take_at, length-reverse}
 use Rattle.std.proofs.lemmas.Bool.{true≢false}
-use Rattle.std.specs.List.{AllByRecursion as All}
+use Rattle.std.specs.List.{AllByRecursion}
 use Rattle.cost.specs.Kind.{Kind, Lawful}
 use Rattle.display.specs.Colours.{levels_of}
 use Rattle.display.specs.Machine.{Meaning, Lawful as Sound}
@@ -38,7 +38,7 @@ can_pass true n e = refl
 can_pass false n e = absurd (true≢false (cc))
 
 module _ {C : Type 0} (m : Meaning) (k : Kind C) where
-  all_follow : (pixels : List Wanted) → All (Follows m k) (stages_of m k pixels)
+  all_follow : (pixels : List Wanted) → AllByRecursion (Follows m k) (stages_of m k pixels)
   all_follow [] = tt
   all_follow (p ∷ pixels) = (stage_follows m k (levels_of p.target) p.pin, all_follow pixels)
 

@@ -1,6 +1,6 @@
 -- How the plate, the open line and the cells stand to the account. No promise names this: it is what each call of a run takes up and leaves.
 use Rattle.std.specs.Prelude.{◌≡◌, ℕ, suc, ◌+◌, ◌<◌, ◌≤◌, false, List, [], ◌∷◌, map, length, Ok, Err, Result}
-use Rattle.std.specs.List.{AllByRecursion as All}
+use Rattle.std.specs.List.{AllByRecursion}
 use Rattle.cost.specs.Kind.{Kind}
 use Rattle.display.specs.Colours.{levels_of}
 use Rattle.display.specs.Machine.{Meaning}
@@ -50,7 +50,7 @@ module _ {C : Type 0} (m : Meaning) (k : Kind C) where
     pub lines : plate.lines ≡ length closed
     pub few : length closed ≤ line_limit
     pub total : plate.total ≡ total_of m k closed
-    pub best : All (Best m k) closed
+    pub best : AllByRecursion (Best m k) closed
 
   -- the open line and the cells stand to its pixels, whatever the account
   pub record OpenRight (width : ℕ) (pixels : List Wanted) (line : OpenLine C) (cells : List (Cell C)) : Type 0 where

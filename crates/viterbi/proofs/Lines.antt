@@ -2,7 +2,7 @@
 use Rattle.std.proofs.Common.{◌≡◌, ℕ, ◌<◌, Bool, true, false, cond, ◌↔◌, List, [], ◌∷◌, length, get_or, replicate, is_some, Some, None, Decides, Option, sym, refl, ap, ◌∙◌, subst, inl, inr, ⊎_elim, arith, length-set, get_or-set_other, get_or-set_same}
 use mathlib.Core.Bool.{or_comm}
 use lib.ListN.{length-replicate, get_or-replicate}
-use Rattle.std.specs.List.{AllByRecursion as All}
+use Rattle.std.specs.List.{AllByRecursion}
 use Rattle.std.proofs.lemmas.List.FromFn.{get_or-map-range_with_len, length-map-range_with_len}
 use Rattle.std.proofs.lemmas.List.{get_or_past}
 use Rattle.std.proofs.lemmas.Bool.{true≢false, both_ways, cases_eq, cases_lt, and_parts, eqb-true, eq-eqb}
@@ -100,7 +100,7 @@ module _ {C : Type 0} (k : Kind C) (law : Lawful k) (S K : ℕ) where
         }
 
     -- a way leads to a reached state, whose cost is at most its own
-    pub way_there : {ps : List (Stage C)} {t : ℕ} (w : Way K start ps t) → All (Within S K) ps → (t < S) × ((at k (last_column k S K start ps) t).reached ≡ true) × AtMost k (at k (last_column k S K start ps) t).cost (way_cost k w)
+    pub way_there : {ps : List (Stage C)} {t : ℕ} (w : Way K start ps t) → AllByRecursion (Within S K) ps → (t < S) × ((at k (last_column k S K start ps) t).reached ≡ true) × AtMost k (at k (last_column k S K start ps) t).cost (way_cost k w)
     way_there begin ok =
         subst (λ (c : Cell C). (start < S) × (c.reached ≡ true) × AtMost k c.cost k.zero) (sym first_start) (here, refl, reflexive k law k.zero)
     way_there (on {p = p} {ps = ps} {s = s} {t = t} w c below goes) ok =
@@ -109,7 +109,7 @@ module _ {C : Type 0} (k : Kind C) (law : Lawful k) (S K : ℕ) where
         let o = offered_at (last_column k S K start ps) p t s c _ h (record { state = b.0; below = below; from = b.1; goes = goes; costs = refl }) in
         (h, o.0, law.transitive _ _ _ o.1 (law.grows_left _ _ _ b.2))
 
-    module _ (ps : List (Stage C)) (ok : All (Within S K) ps) where
+    module _ (ps : List (Stage C)) (ok : AllByRecursion (Within S K) ps) where
       -- where a way leads, the best is picked, and one more stage is passed exactly where a way leads along it too
       pub best_picked : (t : ℕ) → Way K start ps t → (b : ℕ) × (pick k (last_column k S K start ps) S ≡ Some b) × Best k S K start ps b
       best_picked t w = go (pick k (last_column k S K start ps) S) refl

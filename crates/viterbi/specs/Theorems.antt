@@ -1,6 +1,6 @@
 -- What is proved of the columns, for every lawful cost kind on C.
 use Rattle.std.specs.Prelude.{◌≡◌, ℕ, ◌<◌, true, false, ◌↔◌, List, ◌∷◌, Some, None}
-use Rattle.std.specs.List.{AllByRecursion as All}
+use Rattle.std.specs.List.{AllByRecursion}
 use Rattle.cost.specs.Kind.{Kind, Lawful, AtMost}
 use Rattle.viterbi.specs.declared.Cell.{Cell}
 use Rattle.viterbi.specs.Ways.{Stage, Way, codes, states, way_cost}
@@ -40,16 +40,16 @@ pub record ColumnsTheorem (C : Type 0) : Type 0 where
 -- A whole line: where its columns lead, and that nothing is cheaper.
 pub record LineTheorem (C : Type 0) : Type 0 where
   -- a state of the last column is reached exactly where a way leads to it
-  pub reached : (k : Kind C) → Lawful k → (S K start : ℕ) (ps : List (Stage C)) → start < S → All (Within S K) ps → (t : ℕ) →
+  pub reached : (k : Kind C) → Lawful k → (S K start : ℕ) (ps : List (Stage C)) → start < S → AllByRecursion (Within S K) ps → (t : ℕ) →
       ((at k (last_column k S K start ps) t).reached ≡ true) ↔ Way K start ps t
   -- and no way to it costs less
-  pub least : (k : Kind C) → Lawful k → (S K start : ℕ) (ps : List (Stage C)) → start < S → All (Within S K) ps → (t : ℕ) →
+  pub least : (k : Kind C) → Lawful k → (S K start : ℕ) (ps : List (Stage C)) → start < S → AllByRecursion (Within S K) ps → (t : ℕ) →
       (w : Way K start ps t) → AtMost k (at k (last_column k S K start ps) t).cost (way_cost k w)
   -- where a way leads along the line, one is picked, and no way costs less than the way back from it
-  pub best : (k : Kind C) → Lawful k → (S K start : ℕ) (ps : List (Stage C)) → start < S → All (Within S K) ps → (t : ℕ) → Way K start ps t →
+  pub best : (k : Kind C) → Lawful k → (S K start : ℕ) (ps : List (Stage C)) → start < S → AllByRecursion (Within S K) ps → (t : ℕ) → Way K start ps t →
       (b : ℕ) × (pick k (last_column k S K start ps) S ≡ Some b) × Best k S K start ps b
   -- one more pixel can be passed exactly where a way leads along it too
-  pub passes : (k : Kind C) → Lawful k → (S K start : ℕ) (p : Stage C) (ps : List (Stage C)) → start < S → All (Within S K) ps →
+  pub passes : (k : Kind C) → Lawful k → (S K start : ℕ) (p : Stage C) (ps : List (Stage C)) → start < S → AllByRecursion (Within S K) ps →
       (passable k S K (last_column k S K start ps) p ≡ true) ↔ ((t : ℕ) × Way K start (p ∷ ps) t)
   -- totals grow with the costs in them
   pub totals : (k : Kind C) → Lawful k → (xs ys : List C) → EachAtMost k xs ys → AtMost k (total k xs) (total k ys)

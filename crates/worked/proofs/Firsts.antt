@@ -1,7 +1,7 @@
 -- The line that close gives, by a test of every way along its pixels.
 use Rattle.std.proofs.Common.{◌≡◌, ℕ, ◌<◌, Bool, true, cond, ◌&&◌, ◌||◌, eqb, ltb, leb, List, [], ◌∷◌, reverse, Some, unwrap_or, sym, refl, ap, ◌∙◌, subst, ap₂, ⊎_elim, arith}
 use Rattle.std.specs.Option.{option_map}
-use Rattle.std.specs.List.{AllByRecursion as All}
+use Rattle.std.specs.List.{AllByRecursion}
 use Rattle.std.proofs.lemmas.Bool.{and_parts, both_ways, cases_eq, eq-eqb, leb-true}
 use Rattle.std.proofs.lemmas.Bool.Decides.{nat_tests}
 use Rattle.cost.specs.Kind.{Kind, Lawful}
@@ -69,7 +69,7 @@ module _ {C : Type 0} (k : Kind C) where
       column ps = last_column k S K start ps
 
       -- then the cells lead back by that way,
-      by_cells : {ps : List (Stage C)} {t : ℕ} (w : Way K start ps t) → All (Within S K) ps → leads_back w ≡ true → traced_codes k S K start ps t ≡ codes w
+      by_cells : {ps : List (Stage C)} {t : ℕ} (w : Way K start ps t) → AllByRecursion (Within S K) ps → leads_back w ≡ true → traced_codes k S K start ps t ≡ codes w
       by_cells begin ok first = refl
       by_cells (on {p = p} {ps = ps} {s = s} {t = t} w c below goes) ok first =
           let none = no_earlier s c t (k.join (way_cost k w) (p.price c t)) in
@@ -89,7 +89,7 @@ module _ {C : Type 0} (k : Kind C) where
           ap₂ ◌∷◌ by (ap (traced_codes k S K start ps) from ∙ by_cells w ok.1 before)
 
       -- its end is picked, and it costs what the end's cell says
-      is_closed : {ps : List (Stage C)} {t : ℕ} (w : Way K start ps t) → All (Within S K) ps → is_first ps w ≡ true → (b : ℕ) → pick k (column ps) S ≡ Some b →
+      is_closed : {ps : List (Stage C)} {t : ℕ} (w : Way K start ps t) → AllByRecursion (Within S K) ps → is_first ps w ≡ true → (b : ℕ) → pick k (column ps) S ≡ Some b →
           (traced_codes k S K start ps b ≡ codes w) × ((at k (column ps) b).cost ≡ way_cost k w)
       is_closed {ps} {t} w ok first b picks =
           let (tests, before) = and_parts (every_way ps (no_lower t (way_cost k w))) (leads_back w) first in
