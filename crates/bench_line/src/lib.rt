@@ -39,7 +39,7 @@ pub extern "C" fn ham_line(
     preview: &mut [u16],
     cost: &mut u32,
 ) -> bool
-    ensures { result ≡ true → (figures : Figures Summed) × (figures.cost.error ≡ cost.new) × BestFront (ham_meaning (record { registers = registers.entry.now.colours })) summed targets.now codes.new preview.new figures }
+    ensures { result ≡ true → (figures : Figures Summed) × (figures.cost.error ≡ cost.new) × BestFront (ham_meaning (record { registers = registers.now.colours })) summed targets.now codes.new preview.new figures }
 {
     // More than 640 pixels, which start refuses too.
     if targets.len() > 1920 {

@@ -1,5 +1,5 @@
 // The lines of a plate file, one after another.
-ghost use Rattle.std.specs.Prelude.{◌≡◌, ℕ, ◌+◌, ◌*◌, ◌≤◌, true, false, eqb, List, [], length, drop, if◌then◌else◌, Some, Option};
+ghost use Rattle.std.specs.Prelude.{◌≡◌, ℕ, ◌+◌, ◌*◌, ◌≤◌, true, false, ◌==◌, List, [], length, drop, if◌then◌else◌, Some, Option};
 ghost use Rattle.std.specs.Option.{unwrap_or};
 ghost use Rattle.platefile.specs.Drawns.{DrawnRight};
 ghost use Rattle.records.specs.Letters.{meaning_of};
@@ -204,7 +204,7 @@ impl<'a, C: Cost> Lines<'a, C> {
     // The EN stands at `at`: nothing may follow it.
     fn end(self, rest: &[u8]) -> Next<'a, C>
         requires { self.at + 4 ≤ length self.input.now }
-        ensures { result ≡ (if eqb (length rest.now) 4 then Total (record { lines = self.entry.plate.lines; total = self.entry.plate.total }) else Fault (misplaced_at (self.entry.at + 4))) }
+        ensures { result ≡ (if length rest.now == 4 then Total (record { lines = self.entry.plate.lines; total = self.entry.plate.total }) else Fault (misplaced_at (self.entry.at + 4))) }
     {
         if rest.len() != 4 {
             let at = self.at + 4;

@@ -40,7 +40,7 @@ pub fn line_text<C: Cost + Display>(
     codes: &[u8],
     preview: &[u16],
 ) -> io::Result<String>
-    ensures { IfOk result (λ text. (shown-cost : List ℕ) → C.Display.output cost ≡ Some shown-cost → string_bytes text ≡ line_bytes number shown-cost codes.now preview.now) }
+    ensures { IfOk result (λ text. (shown_cost : List ℕ) → C.Display.output cost ≡ Some shown_cost → string_bytes text ≡ line_bytes number shown_cost codes.now preview.now) }
 {
     let codes = codes_text(heap, codes)?;
     let preview = preview_text(heap, preview)?;
@@ -54,7 +54,7 @@ pub fn total_text<C: Cost + Display>(
     lines: u16,
     total: C,
 ) -> Result<String, AllocError>
-    ensures { IfOk result (λ text. (shown-total : List ℕ) → C.Display.output total ≡ Some shown-total → string_bytes text ≡ total_bytes lines shown-total) }
+    ensures { IfOk result (λ text. (shown_total : List ℕ) → C.Display.output total ≡ Some shown_total → string_bytes text ≡ total_bytes lines shown_total) }
 {
     format!(in heap; "lines {lines} total {total}\n")
 }

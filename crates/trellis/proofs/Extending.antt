@@ -11,7 +11,7 @@ use Rattle.trellis.specs.Bids.{indexed, offer}
 use Rattle.trellis.specs.Cells.{column_at, written}
 use Rattle.trellis.proofs.Indexing.{length-indexed}
 use Rattle.trellis.proofs.Bidding.{standing, standing_reached, standing_unreached}
-use Rattle.trellis.proofs.Writing.{lent, length_part, read_part, replicate-counting, written_before, written_self, written_there, written_twice}
+use Rattle.trellis.proofs.Writing.{lent, length_part, read_part, replicate-range_with_len, written_before, written_self, written_there, written_twice}
 
 module _ {C : Type 0} (k : Kind C) (S K n : ℕ) (p : Stage C) where
   abbrev base : ℕ
@@ -32,7 +32,7 @@ module _ {C : Type 0} (k : Kind C) (S K n : ℕ) (p : Stage C) where
     is_cleared : cleared ≡ written base (after cleared 0) xs
     is_cleared =
         lent (λ zs. replicate (length zs) (blank k)) (λ zs. length-replicate (length zs) (blank k)) base S xs ys room clear
-        ∙ ap (λ zs. written base zs xs) (ap (λ i. replicate i (blank k)) (length_part xs base S room) ∙ replicate-counting (blank k) 0 S)
+        ∙ ap (λ zs. written base zs xs) (ap (λ i. replicate i (blank k)) (length_part xs base S room) ∙ replicate-range_with_len (blank k) 0 S)
 
     pub no_states : cleared ≡ written base (after cleared 0) cleared
     no_states = written_self base xs (after cleared 0) (omega arith) cleared is_cleared

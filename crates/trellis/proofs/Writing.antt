@@ -15,9 +15,9 @@ module _ {X : Type 0} where
       ∙ sym (append_assoc (replicate i b) (b ∷ []) (drop (i + 1) xs))
       ∙ ap (λ zs. zs ++ drop (i + 1) xs) (replicate_more i b)
 
-  pub replicate-counting : (b : X) (a n : ℕ) → replicate n b ≡ map (λ _. b) (range_with_len a n)
-  replicate-counting b a zero = refl
-  replicate-counting b a (suc n) = ap (◌∷◌ b) (replicate-counting b (a + 1) n)
+  pub replicate-range_with_len : (b : X) (a n : ℕ) → replicate n b ≡ map (λ _. b) (range_with_len a n)
+  replicate-range_with_len b a zero = refl
+  replicate-range_with_len b a (suc n) = ap (◌∷◌ b) (replicate-range_with_len b (a + 1) n)
 
   -- what was read at a place of a part
   pub read_part : (xs : List X) (from size i : ℕ) (x d : X) → from + i < length xs → i < size → x ≡ get_or xs (from + i) x → x ≡ get_or (take size (drop from xs)) i d
