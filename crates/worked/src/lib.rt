@@ -1,4 +1,4 @@
-// Values and lines worked out by hand, as one theorem of the definitions that the other contracts are stated in.
+// Values and lines worked out by hand, on one contract over the definitions that the other contracts are stated in.
 #![tactic(auto)]
 
 ghost use Rattle.cost.specs.Kind.{Lawful as LawfulKind};
