@@ -1,6 +1,6 @@
 -- The three cost kinds. The greatest number of 32 bits is called top.
 use Rattle.std.specs.Prelude.{ℕ, ◌+◌, min, max, cond, ◌&&◌, ◌||◌, ◌==◌, nat_le, nat_lt}
-use Rattle.std.proofs.Common.{arith}
+use Rattle.std.proofs.Math.Nat.{min-le_right}
 use Rattle.cost.specs.Kind.{Kind}
 use Rattle.cost.specs.declared.summed.Summed.{Summed}
 use Rattle.cost.specs.declared.worst.Worst.{Worst}
@@ -11,7 +11,7 @@ top = 4294967295
 
 -- Summed: errors are added, and stop at top.
 abbrev pub summed_of : ℕ → Summed
-summed_of n = record { error = min n top; bounded = omega arith }
+summed_of n = record { error = min n top; bounded = min-le_right n top }
 
 abbrev pub summed : Kind Summed
 summed = record {
@@ -35,7 +35,7 @@ worst = record {
 
 -- Pair: errors added, and holding codes counted. Error decides the order, then count.
 abbrev pub pair_of : ℕ → ℕ → Pair
-pair_of error count = record { error = min error top; count = min count top; bounded = (omega arith, omega arith) }
+pair_of error count = record { error = min error top; count = min count top; bounded = (min-le_right error top, min-le_right count top) }
 
 -- both halves stop together: an exact error above top makes each of them top
 abbrev pub joined_pair : Pair → Pair → Pair

@@ -1,6 +1,0 @@
-use Rattle.std.proofs.Common.{arith}
-use Rattle.cost.specs.Same.{same_summed}
-use Rattle.cost.proofs.SummedCost.join.Goals as goal
-
-pub returns : goal.returns
-returns c = same_summed (omega arith)
