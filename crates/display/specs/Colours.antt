@@ -1,5 +1,5 @@
 -- Levels, colours, targets, and the error of a pixel.
-use Rattle.std.specs.Prelude.{ℕ, ◌+◌, ◌-◌, ◌*◌, ◌/◌, ◌%◌, min, max}
+use Rattle.std.specs.Prelude.{ℕ, ◌+◌, ◌-◌, ◌*◌, ◌/◌, ◌%◌, List, slice_index, min, max}
 use Rattle.display.specs.declared.colour.Levels.{Levels}
 use Rattle.display.specs.declared.colour.Target.{Target}
 
@@ -15,6 +15,14 @@ green_of colour = colour / 16 % 16
 
 abbrev pub blue_of : ℕ → ℕ
 blue_of colour = colour % 16
+
+abbrev pub shown_levels : ℕ → Levels
+shown_levels colour = record { red = red_of colour; green = green_of colour; blue = blue_of colour }
+
+-- a target by its three bytes
+abbrev pub target_by : List ℕ → Target
+target_by bytes =
+    record { red = slice_index bytes 0; green = slice_index bytes 1; blue = slice_index bytes 2 }
 
 -- the level of a target's byte
 abbrev pub level_of : ℕ → ℕ

@@ -41,11 +41,9 @@ impl DisplayMachine for Fill {
     }
 
     fn shown(&self, state: u16) -> u16 {
-        if state < 16 {
-            self.entries[state as usize] % 4096
-        } else {
-            0
-        }
+        self.entries
+            .get(usize::from(state))
+            .map_or(0, |entry| *entry % 4096)
     }
 
     fn holds(&self, code: u8) -> bool {

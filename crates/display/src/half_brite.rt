@@ -3,7 +3,7 @@ ghost use Rattle.std.specs.Prelude.{◌≡◌, ◌<◌};
 ghost use Rattle.display.specs.Displays.{half_brite_meaning, half_of};
 ghost use Rattle.std.proofs.Common.{rules};
 
-use crate::colour::{blue, compose, green, red};
+use crate::colour::Levels;
 use crate::machine::DisplayMachine;
 
 #[derive(Clone, Copy)]
@@ -15,7 +15,13 @@ fn halved(colour: u16) -> u16
     requires { colour < 4096 }
     ensures { result ≡ half_of colour }
 {
-    compose(red(colour) / 2, green(colour) / 2, blue(colour) / 2)
+    let Levels { red, green, blue } = Levels::of(colour);
+    Levels {
+        red: red / 2,
+        green: green / 2,
+        blue: blue / 2,
+    }
+    .colour()
 }
 
 impl DisplayMachine for HalfBrite {
@@ -40,17 +46,13 @@ impl DisplayMachine for HalfBrite {
     }
 
     fn step(&self, state: u16, code: u8) -> Option<u16> {
-        if state < 64 && code < 64 {
-            Some(u16::from(code))
-        } else {
-            None
-        }
+        (state < 64 && code < 64).then_some(u16::from(code))
     }
 
     fn shown(&self, state: u16) -> u16 {
         match state {
-            0..=31 => self.registers[state as usize] % 4096,
-            32..=63 => halved(self.registers[state as usize - 32] % 4096),
+            0..=31 => self.registers[usize::from(state)] % 4096,
+            32..=63 => halved(self.registers[usize::from(state - 32)] % 4096),
             _ => 0,
         }
     }

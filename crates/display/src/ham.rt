@@ -3,7 +3,7 @@ ghost use Rattle.std.specs.Prelude.{◌≡◌};
 ghost use Rattle.display.specs.Displays.{ham_meaning};
 ghost use Rattle.std.proofs.Common.{rules};
 
-use crate::colour::{blue, compose, green, red};
+use crate::colour::Levels;
 use crate::machine::DisplayMachine;
 
 #[derive(Clone, Copy)]
@@ -37,11 +37,12 @@ impl DisplayMachine for Ham {
             return None;
         }
         let data = code % 16;
+        let old = Levels::of(state);
         match code / 16 {
-            0 => Some(self.registers[data as usize] % 4096),
-            1 => Some(compose(red(state), green(state), data)),
-            2 => Some(compose(data, green(state), blue(state))),
-            3 => Some(compose(red(state), data, blue(state))),
+            0 => Some(self.registers[usize::from(data)] % 4096),
+            1 => Some(Levels { blue: data, ..old }.colour()),
+            2 => Some(Levels { red: data, ..old }.colour()),
+            3 => Some(Levels { green: data, ..old }.colour()),
             _ => None,
         }
     }
@@ -51,6 +52,6 @@ impl DisplayMachine for Ham {
     }
 
     fn holds(&self, code: u8) -> bool {
-        code >= 16 && code < 64
+        (16..64).contains(&code)
     }
 }

@@ -1,30 +1,33 @@
-use Rattle.std.proofs.Common.{◌≡◌, ℕ, ◌%◌, ◌<◌, [], ◌∷◌, ◌++◌, ap, ◌∙◌, subst, arith}
-use lib.Utf8.{encode}
-use Rattle.std.specs.Fmt.{HasWritten}
-use Rattle.std.proofs.lemmas.Str.Ascii.{encode_ascii}
+use Rattle.std.proofs.Common.{◌≡◌, ℕ, ◌-◌, ◌^◌, ◌/◌, ◌%◌, ◌<◌, ◌≤◌, false, [], ◌∷◌, refl, subst, arith, inl, inr}
+use Rattle.std.specs.Fmt.{HasWritten, char_count, digit_glyph, digits, format_spec, padded_integral}
+use Rattle.std.proofs.lemmas.Bool.{cases_lt, eq-eqb, ne_eqb}
+use Rattle.std.proofs.lemmas.Fmt.{hex_one_digit, hex_two_digits}
 use Rattle.display.specs.Colours.{red_of, green_of, blue_of}
 use Rattle.display.specs.Texts.{digit_of}
 use Rattle.display.proofs.colour.ColourDisplay.fmt.Goals as goal
 
-small : (level : ℕ) → level < 16 → digit_of level < 128
-small level h = grind arith
+hex_three_digits : (n : ℕ) → 256 ≤ n → n < 4096 → digits 16 false n ≡ digit_glyph false (n / 256) ∷ digit_glyph false (n / 16 % 16) ∷ digit_glyph false (n % 16) ∷ []
+unfolding digits
+hex_three_digits n h k =
+    let a : n / 16 / 16 ≡ n / 256 = omega arith in
+    let b : n / 256 % 16 ≡ n / 256 = omega arith in
+    rw (ne_eqb (n / 16) 0 (omega arith), ne_eqb (n / 16 / 16) 0 (omega arith), eq-eqb (n / 16 / 16 / 16) 0 (omega arith), a, b) refl
 
-one : (level digit : ℕ) → level < 16 → digit ≡ digit_of level → encode digit ≡ digit_of level ∷ []
-one level digit h e = ap encode e ∙ encode_ascii (digit_of level) (small level h)
-
-three : (n x y z : ℕ) → n < 4096 → x ≡ digit_of (red_of n) → y ≡ digit_of (green_of n) → z ≡ digit_of (blue_of n) →
-    encode x ++ (encode y ++ encode z) ≡ digit_of (red_of n) ∷ digit_of (green_of n) ∷ digit_of (blue_of n) ∷ []
-three n x y z h p q r =
-    let a = one (red_of n) x (omega arith) p in
-    let b = one (green_of n) y (omega arith) q in
-    let c = one (blue_of n) z (omega arith) r in
-    simp (a, b, c)
+-- what `{:03x}` writes of a colour's number
+three_digits : (n : ℕ) → n < 4096 →
+    padded_integral (format_spec 32 0 4 3 (2 ^ 64 - 1)) false [] (digits 16 false n) ≡ digit_of (red_of n) ∷ digit_of (green_of n) ∷ digit_of (blue_of n) ∷ []
+unfolding padded_integral char_count
+three_digits n h =
+    elim (cases_lt n 16) [
+      | inl one ↦ (let a : n / 256 ≡ 0 = omega arith in let b : n / 16 % 16 ≡ 0 = omega arith in let c : n % 16 ≡ n = omega arith in rw (hex_one_digit false n one, a, b, c) refl)
+      | inr more ↦ elim (cases_lt n 256) [
+        | inl two ↦ (let a : n / 256 ≡ 0 = omega arith in let b : n / 16 % 16 ≡ n / 16 = omega arith in rw (hex_two_digits false n more two, a, b) refl)
+        | inr three ↦ rw (hex_three_digits n three h) refl
+      ]
+    ]
 
 pub returns-clause-writes : goal.returns-clause-writes
 returns-clause-writes g c p o =
     subst (λ text. HasWritten g.W.Write.write_str_gives c.args.f.now text c.write.new.self)
-    (three (c.args.self.now.0 % 4096) _ _ _ (omega arith)
-    (c.digit-red.ensures ∙ ap digit_of c.red.ensures)
-    (c.digit-green.ensures ∙ ap digit_of c.green.ensures)
-    (c.digit-blue.ensures ∙ ap digit_of c.blue.ensures))
-    (c.write.ensures.writes p o)
+    (three_digits (c.args.self.now.0 % 4096) (omega arith))
+    ((rw (c.laid_out.ensures, c.in_radix.ensures) at c.write.ensures.writes) p o)
