@@ -11,12 +11,10 @@ pub(crate) fn check_codes<M: DisplayMachine>(machine: &M, codes: &[u8]) -> Resul
     ensures { result ≡ answer (unknown_code (M.meaning machine.now) codes.now) tt }
 {
     let count = machine.codes();
-    for (pixel, code) in codes.iter().enumerate() {
-        if *code >= count {
-            return Err(Fault::UnknownCode { pixel });
-        }
+    match codes.iter().position(|code| *code >= count) {
+        Some(pixel) => Err(Fault::UnknownCode { pixel }),
+        None => Ok(()),
     }
-    Ok(())
 }
 
 pub(crate) fn check_steps<M: DisplayMachine>(machine: &M, codes: &[u8]) -> Result<(), Fault>
@@ -24,10 +22,7 @@ pub(crate) fn check_steps<M: DisplayMachine>(machine: &M, codes: &[u8]) -> Resul
 {
     let mut state = machine.start();
     for (pixel, code) in codes.iter().enumerate() {
-        match machine.step(state, *code) {
-            Some(next) => state = next,
-            None => return Err(Fault::NoStep { pixel }),
-        }
+        state = machine.step(state, *code).ok_or(Fault::NoStep { pixel })?;
     }
     Ok(())
 }

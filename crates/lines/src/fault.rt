@@ -6,7 +6,7 @@ ghost use Rattle.lines.specs.Texts.{fault_text, layer_text};
 use std::fmt;
 
 // The layer that a refusal names.
-#[derive(Clone, Copy)]
+#[derive(Clone, Copy, Debug, PartialEq, Eq)]
 pub enum Layer {
     Trellis,
     Plate,
@@ -14,7 +14,7 @@ pub enum Layer {
 }
 
 // Why a call was refused. The pixel is counted from 0; where no single pixel is at fault, it is how many the line has.
-#[derive(Clone, Copy)]
+#[derive(Clone, Copy, Debug, PartialEq, Eq)]
 pub enum Fault {
     PlateFull,
     BadWidth,
@@ -36,15 +36,15 @@ impl Fault {
         match self {
             Fault::PlateFull => 1,
             Fault::BadWidth => 2,
-            Fault::TooFewCells { pixel: _ } => 3,
-            Fault::LineFull { pixel: _ } => 4,
+            Fault::TooFewCells { .. } => 3,
+            Fault::LineFull { .. } => 4,
             Fault::LineEmpty => 5,
-            Fault::TargetBytes { pixel: _ } => 6,
-            Fault::UnknownCode { pixel: _ } => 7,
-            Fault::NoWay { pixel: _ } => 8,
-            Fault::ShortBuffer { pixel: _ } => 9,
-            Fault::NoStep { pixel: _ } => 10,
-            Fault::BrokenCells { pixel: _ } => 11,
+            Fault::TargetBytes { .. } => 6,
+            Fault::UnknownCode { .. } => 7,
+            Fault::NoWay { .. } => 8,
+            Fault::ShortBuffer { .. } => 9,
+            Fault::NoStep { .. } => 10,
+            Fault::BrokenCells { .. } => 11,
         }
     }
 
@@ -58,17 +58,15 @@ impl Fault {
         ensures { result ≡ place_of self }
     {
         match self {
-            Fault::PlateFull => 0,
-            Fault::BadWidth => 0,
-            Fault::TooFewCells { pixel } => pixel,
-            Fault::LineFull { pixel } => pixel,
-            Fault::LineEmpty => 0,
-            Fault::TargetBytes { pixel } => pixel,
-            Fault::UnknownCode { pixel } => pixel,
-            Fault::NoWay { pixel } => pixel,
-            Fault::ShortBuffer { pixel } => pixel,
-            Fault::NoStep { pixel } => pixel,
-            Fault::BrokenCells { pixel } => pixel,
+            Fault::PlateFull | Fault::BadWidth | Fault::LineEmpty => 0,
+            Fault::TooFewCells { pixel }
+            | Fault::LineFull { pixel }
+            | Fault::TargetBytes { pixel }
+            | Fault::UnknownCode { pixel }
+            | Fault::NoWay { pixel }
+            | Fault::ShortBuffer { pixel }
+            | Fault::NoStep { pixel }
+            | Fault::BrokenCells { pixel } => pixel,
         }
     }
 }
@@ -89,9 +87,12 @@ impl fmt::Display for Fault {
     ghost output = { λ fault. Some (fault_text fault) };
 
     fn fmt<W: fmt::Write>(&self, f: &mut fmt::Formatter<W>) -> fmt::Result {
-        let number = self.number();
-        let layer = self.layer();
-        let pixel = self.pixel();
-        write!(f, "fault {number} {layer} pixel {pixel}")
+        write!(
+            f,
+            "fault {} {} pixel {}",
+            self.number(),
+            self.layer(),
+            self.pixel()
+        )
     }
 }

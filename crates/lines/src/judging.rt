@@ -1,6 +1,7 @@
 // Judge: the cost of a code line by its targets.
-ghost use Rattle.std.specs.Prelude.{◌≡◌, ◌*◌, length};
-ghost use Rattle.lines.specs.Lines.{cost_of, targets_of};
+ghost use Rattle.std.specs.Prelude.{◌≡◌, map};
+ghost use Rattle.display.specs.Colours.{target_by};
+ghost use Rattle.lines.specs.Lines.{cost_of};
 ghost use Rattle.lines.specs.Checks.{judged};
 
 use crate::check::{check_codes, check_steps};
@@ -17,7 +18,8 @@ pub fn judge<M: DisplayMachine, C: Cost>(
 ) -> Result<C, Fault>
     ensures { result ≡ judged (M.meaning machine.now) C.kind codes.now targets.now }
 {
-    if targets.len() % 3 != 0 || targets.len() / 3 != codes.len() {
+    let (targets, rest) = targets.as_chunks::<3>();
+    if !rest.is_empty() || targets.len() != codes.len() {
         return Err(Fault::TargetBytes { pixel: codes.len() });
     }
     check_codes(machine, codes)?;
@@ -25,18 +27,13 @@ pub fn judge<M: DisplayMachine, C: Cost>(
     Ok(line_cost(machine, codes, targets))
 }
 
-fn line_cost<M: DisplayMachine, C: Cost>(machine: &M, codes: &[u8], targets: &[u8]) -> C
-    requires { length targets.now ≡ 3 * length codes.now }
-    ensures { result ≡ cost_of (M.meaning machine.now) C.kind codes.now (targets_of targets.now) }
+fn line_cost<M: DisplayMachine, C: Cost>(machine: &M, codes: &[u8], targets: &[[u8; 3]]) -> C
+    ensures { result ≡ cost_of (M.meaning machine.now) C.kind codes.now (map target_by targets.now) }
 {
     let mut state = machine.start();
     let mut sum = C::zero();
-    for (pixel, code) in codes.iter().enumerate() {
-        let target = Target {
-            red: targets[3 * pixel],
-            green: targets[3 * pixel + 1],
-            blue: targets[3 * pixel + 2],
-        };
+    for (code, bytes) in codes.iter().zip(targets) {
+        let target = Target::from(*bytes);
         state = next_state(machine, state, *code);
         sum = sum.join(pixel_price(machine, target.levels(), *code, state));
     }

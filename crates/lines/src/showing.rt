@@ -27,6 +27,7 @@ fn write_preview<M: DisplayMachine>(machine: &M, codes: &[u8], preview: &mut [u1
     ensures { preview.new ≡ with_front (preview_of (M.meaning machine.now) codes.now) preview.old }
 {
     let mut state = machine.start();
+    // By index: of what a slice holds after `iter_mut().zip(..)` the library says nothing.
     for (pixel, code) in codes.iter().enumerate() {
         state = next_state(machine, state, *code);
         preview[pixel] = machine.shown(state);

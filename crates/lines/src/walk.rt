@@ -9,10 +9,7 @@ use display::{DisplayMachine, Levels};
 pub(crate) fn next_state<M: DisplayMachine>(machine: &M, state: u16, code: u8) -> u16
     ensures { result ≡ after_code (M.meaning machine.now) state code }
 {
-    match machine.step(state, code) {
-        Some(next) => next,
-        None => state,
-    }
+    machine.step(state, code).unwrap_or(state)
 }
 
 // The price of a pixel whose code led to the state.

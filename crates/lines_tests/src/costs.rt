@@ -8,9 +8,10 @@ fn pair(error: u32, count: u32) -> Pair {
 
 #[test]
 fn both_halves_stop_together(rt: HostRuntime) {
-    let joined = pair(u32::MAX, 0).join(pair(1, 0));
-    assert_eq!(rt; joined.error, u32::MAX);
-    assert_eq!(rt; joined.count, u32::MAX);
+    assert_eq!(rt;
+        pair(u32::MAX, 0).join(pair(1, 0)),
+        pair(u32::MAX, u32::MAX)
+    );
 }
 
 #[test]
@@ -27,8 +28,7 @@ fn order_stays_at_the_greatest_number(rt: HostRuntime) {
 #[test]
 fn a_sum_of_the_greatest_number_keeps_its_count(rt: HostRuntime) {
     let joined = pair(u32::MAX - 1, 2).join(pair(1, u32::MAX));
-    assert_eq!(rt; joined.error, u32::MAX);
-    assert_eq!(rt; joined.count, u32::MAX);
+    assert_eq!(rt; joined, pair(u32::MAX, u32::MAX));
     let sum = <Summed as Cost>::price(u32::MAX, false).join(<Summed as Cost>::price(1, true));
     assert_eq!(rt; sum.error, u32::MAX);
 }

@@ -6,6 +6,8 @@ mod costs;
 #[cfg(test)]
 mod displays;
 #[cfg(test)]
+mod machines;
+#[cfg(test)]
 mod refusals;
 #[cfg(test)]
 mod written;

@@ -1,29 +1,17 @@
 // Which of two refusals comes first.
+use crate::machines::{FILL, HAM};
 use cost::Summed;
-use display::{Fill, Ham};
+use display::DisplayMachine;
 use lines::{Fault, judge, show};
 use std::test::Fail;
 
-const HAM: Ham = Ham { registers: [0; 16] };
-
-const FILL: Fill = Fill { entries: [0; 16] };
-
-// The number and the place of a refusal.
+// The number and the place of a refusal, as the documents number them: the values that these tests expect.
 fn refusal<T: Drop>(answer: Result<T, Fault>) -> Option<(u8, usize)> {
-    match answer {
-        Ok(_) => None,
-        Err(fault) => Some((fault.number(), fault.pixel())),
-    }
+    answer.err().map(|fault| (fault.number(), fault.pixel()))
 }
 
-fn judged_ham(codes: &[u8], targets: &[u8]) -> Option<(u8, usize)> {
-    let answer: Result<Summed, Fault> = judge(&HAM, codes, targets);
-    refusal(answer)
-}
-
-fn judged_fill(codes: &[u8], targets: &[u8]) -> Option<(u8, usize)> {
-    let answer: Result<Summed, Fault> = judge(&FILL, codes, targets);
-    refusal(answer)
+fn judged<M: DisplayMachine>(machine: &M, codes: &[u8], targets: &[u8]) -> Option<(u8, usize)> {
+    refusal(judge::<M, Summed>(machine, codes, targets))
 }
 
 #[test]
@@ -56,16 +44,16 @@ fn a_refused_step_writes_nothing(rt: HostRuntime) {
 
 #[test]
 fn judge_names_target_bytes_first(rt: HostRuntime) {
-    assert_eq!(rt; judged_ham(&[64], &[0, 0]), Some((6, 1)));
-    assert_eq!(rt; judged_ham(&[64, 0], &[0; 7]), Some((6, 2)));
-    assert_eq!(rt; judged_fill(&[0], &[0; 6]), Some((6, 1)));
+    assert_eq!(rt; judged(&HAM, &[64], &[0, 0]), Some((6, 1)));
+    assert_eq!(rt; judged(&HAM, &[64, 0], &[0; 7]), Some((6, 2)));
+    assert_eq!(rt; judged(&FILL, &[0], &[0; 6]), Some((6, 1)));
 }
 
 #[test]
 fn judge_names_an_unknown_code_before_a_missing_step(rt: HostRuntime) {
-    assert_eq!(rt; judged_fill(&[0, 16], &[0; 6]), Some((7, 1)));
-    assert_eq!(rt; judged_fill(&[3, 0, 0], &[0; 9]), None);
-    assert_eq!(rt; judged_fill(&[0, 3], &[0; 6]), Some((10, 0)));
+    assert_eq!(rt; judged(&FILL, &[0, 16], &[0; 6]), Some((7, 1)));
+    assert_eq!(rt; judged(&FILL, &[3, 0, 0], &[0; 9]), None);
+    assert_eq!(rt; judged(&FILL, &[0, 3], &[0; 6]), Some((10, 0)));
 }
 
 #[test]

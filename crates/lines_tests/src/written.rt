@@ -1,10 +1,8 @@
 // What show leaves in a buffer, and what empty lines show and cost.
+use crate::machines::HAM;
 use cost::{Pair, Summed, Worst};
-use display::Ham;
-use lines::{Fault, judge, show};
+use lines::{Codes, Preview, judge, show};
 use std::test::Fail;
-
-const HAM: Ham = Ham { registers: [0; 16] };
 
 #[test]
 fn the_rest_of_a_buffer_stays(rt: HostRuntime) {
@@ -29,21 +27,20 @@ fn an_empty_line_shows_nothing(rt: HostRuntime) {
 }
 
 #[test]
-fn an_empty_line_costs_nothing(rt: HostRuntime) -> Result<(), Fail> {
-    let summed: Result<Summed, Fault> = judge(&HAM, &[], &[]);
-    let worst: Result<Worst, Fault> = judge(&HAM, &[], &[]);
-    let pair: Result<Pair, Fault> = judge(&HAM, &[], &[]);
-    let Ok(summed) = summed else {
-        return Err(Fail::new("refused"));
-    };
-    let Ok(worst) = worst else {
-        return Err(Fail::new("refused"));
-    };
-    let Ok(pair) = pair else {
-        return Err(Fail::new("refused"));
-    };
-    assert_eq!(rt; summed.error, 0);
-    assert_eq!(rt; worst.error, 0);
-    assert_eq!(rt; (pair.error, pair.count), (0, 0));
+fn an_empty_line_costs_nothing(rt: HostRuntime) {
+    let pair = Pair { error: 0, count: 0 };
+    assert_eq!(rt; judge(&HAM, &[], &[]), Ok(Summed { error: 0 }));
+    assert_eq!(rt; judge(&HAM, &[], &[]), Ok(Worst { error: 0 }));
+    assert_eq!(rt; judge(&HAM, &[], &[]), Ok(pair));
+}
+
+#[test]
+fn codes_and_colours_stand_after_spaces(rt: HostRuntime) -> Result<(), Fail> {
+    let codes = Codes(&[55, 0, 9]);
+    let preview = Preview(&[0x070, 0xfff, 0x00a]);
+    let text = format!(in rt.alloc(); "codes{codes} preview{preview}")?;
+    assert_eq!(rt; text.as_str(), "codes 55 0 9 preview 070 fff 00a");
+    let none = format!(in rt.alloc(); "{}{}", Codes(&[]), Preview(&[]))?;
+    assert_eq!(rt; none.as_str(), "");
     Ok(())
 }

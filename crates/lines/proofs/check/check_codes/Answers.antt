@@ -1,17 +1,22 @@
-use Rattle.std.proofs.Common.{sym, ap, ◌∙◌, arith}
-use Rattle.std.proofs.lemmas.List.{at_drop_all}
-use Rattle.lines.specs.Checks.{answer, unknown_from}
-use Rattle.lines.proofs.Walks.{unknown_here, unknown_more}
+use Rattle.std.proofs.Common.{◌≡◌, leb, refl, sym, rules, tests}
+use Rattle.std.proofs.lemmas.Iterator.{YieldsList-from_slice}
+use Rattle.std.proofs.lemmas.Iterator.Search.{position_from_yields_List}
+use Rattle.std.specs.List.{position}
+use Rattle.lines.proofs.Walks.{unknown_position}
 use Rattle.lines.proofs.check.check_codes.Goals as goal
 
-pub returns-then-code-count : goal.returns-then-code-count
-returns-then-code-count g c =
-    sym (ap (λ check. answer check tt) (c.loop-pixel.invariant ∙ unknown_here _ c.args.codes.now _ (omega arith) (omega arith)))
-
-pub loop-pixel-preserved : goal.loop-pixel-preserved
-loop-pixel-preserved g c = c.loop-pixel.invariant ∙ unknown_more _ c.args.codes.now _ (omega arith) (omega arith)
-
-pub returns : goal.returns
-returns g c =
+pub returns-in-Some : goal.returns-in-Some
+returns-in-Some g c =
     let m = g.M.DisplayMachine.meaning c.args.machine.now in
-    sym (ap (λ check. answer check tt) (c.loop-pixel.invariant ∙ at_drop_all (unknown_from m.codes c.loop-pixel.pixel) c.args.codes.now _ (omega arith)))
+    let found : c.position.result ≡ position (λ code. leb c.codes-count.result code) c.args.codes.now =
+    position_from_yields_List _ _ _ _ c.position.ensures.ran (YieldsList-from_slice c.args.codes.now cc) (λ x b q k. search (rules, tests))
+    in
+    rw (unknown_position m c.args.codes.now, sym c.codes-count.ensures, sym found, c.in-Some.is) refl
+
+pub returns-in-None : goal.returns-in-None
+returns-in-None g c =
+    let m = g.M.DisplayMachine.meaning c.args.machine.now in
+    let found : c.position.result ≡ position (λ code. leb c.codes-count.result code) c.args.codes.now =
+    position_from_yields_List _ _ _ _ c.position.ensures.ran (YieldsList-from_slice c.args.codes.now cc) (λ x b q k. search (rules, tests))
+    in
+    rw (unknown_position m c.args.codes.now, sym c.codes-count.ensures, sym found, c.in-None.is) refl

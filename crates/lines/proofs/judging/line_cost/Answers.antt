@@ -1,26 +1,20 @@
-use Rattle.std.proofs.Common.{◌*◌, get_or, drop, ap, ◌∙◌, arith}
-use Rattle.std.proofs.lemmas.List.{at_drop_all}
-use Rattle.lines.specs.Lines.{cost_from, price_at, targets_of}
-use Rattle.lines.proofs.Walks.{cost_more}
+use Rattle.std.proofs.Common.{◌≡◌, ℕ, ◌⊎◌, List, [], ◌∷◌, map, refl, sym, ◌∙◌, inl, inr}
+use Rattle.std.proofs.lemmas.Slice.Zip.{either_empty_from_Zip}
+use Rattle.cost.specs.Kind.{Kind}
+use Rattle.display.specs.Colours.{target_by}
+use Rattle.display.specs.Machine.{Meaning}
+use Rattle.lines.specs.Lines.{cost_from}
 use Rattle.lines.proofs.judging.line_cost.Goals as goal
 
-pub loop-pixel-preserved : goal.loop-pixel-preserved
-loop-pixel-preserved g c =
-    let m = g.M.DisplayMachine.meaning c.args.machine.now in
-    let k = g.C.Cost.kind in
-    let sum = c.loop-pixel.sum in
-    let i = c.loop-pixel.pixel in
-    let code = get_or c.args.codes.now i 0 in
-    let t = c.next_state-state.result in
-    c.loop-pixel.invariant
-    ∙ cost_more m k sum c.join-sum.result c.loop-pixel.state t c.args.codes.now c.args.targets.now i (omega arith) (omega (arith, c.requires)) c.next_state-state.ensures
-    (c.join-sum.ensures ∙ ap (k.join sum) (c.pixel_price.ensures ∙ ap (λ wanted. price_at m k wanted code t) c.levels.ensures))
+-- no code or no target is left
+spent : {C : Type 0} (m : Meaning) (k : Kind C) (sum : C) (s : ℕ) (cs : List ℕ) (ts : List (List ℕ)) → (cs ≡ []) ⊎ (ts ≡ []) → cost_from m k sum s cs (map target_by ts) ≡ sum
+spent m k sum s cs ts (inl e) = rw e refl
+spent m k sum s [] ts (inr e) = refl
+spent m k sum s (c ∷ cs) ts (inr e) = rw e refl
 
 pub returns : goal.returns
 returns g c =
     let m = g.M.DisplayMachine.meaning c.args.machine.now in
     let k = g.C.Cost.kind in
-    let rest = targets_of (drop (3 * c.loop-pixel.pixel) c.args.targets.now) in
-    let end = at_drop_all (λ cs. cost_from m k c.loop-pixel.sum c.loop-pixel.state cs rest) c.args.codes.now c.loop-pixel.pixel (omega arith) in
-    let inv = c.loop-pixel.invariant in
-    cc
+    let over = either_empty_from_Zip c.loop-code.code-iterator c.next.new.self c.next.result c.in-None.is c.next.ensures.steps in
+    sym (c.loop-code.invariant ∙ spent m k c.loop-code.sum c.loop-code.state _ _ over)
