@@ -9,11 +9,12 @@ use cost::Cost;
 
 // What a column keeps of one state: the least cost of a way to it, that way's last step, and whether there is one.
 // Fields lie as they are written, and a wide one after a narrow one leaves bytes unused, so the cost comes first.
-#[derive(Clone, Copy)]
+#[derive(Clone, Copy, Debug, PartialEq, Eq)]
 pub struct Cell<C> {
     pub cost: C,
     pub prev: u16,
     pub code: u8,
+    // Beside the rest, since an Option around it would make a cell of summed errors 12 bytes: C is promised 8.
     pub reached: bool,
 }
 
