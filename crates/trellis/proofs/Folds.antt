@@ -1,7 +1,6 @@
 -- Folds over the codes below a number, G n after the codes below n.
-use Rattle.std.proofs.Common.{◌≡◌, ℕ, zero, suc, ◌<◌, ◌≤◌, Bool, true, ◌≢◌, sym, refl, ap, ◌∙◌, ⊎_elim, arith}
-use Rattle.std.proofs.lemmas.Bool.{cases_eq, cases_lt, or_left, or_right}
-use Rattle.viterbi.specs.Columns.{any_below}
+use Rattle.std.proofs.Common.{◌≡◌, ℕ, zero, suc, ◌<◌, ◌≤◌, ◌≢◌, sym, refl, ap, ◌∙◌, ⊎_elim, arith}
+use Rattle.std.proofs.lemmas.Bool.{cases_eq, cases_lt}
 
 module _ {X : Type 0} (turn : ℕ → X → X) (G : ℕ → X) (more : (n : ℕ) → G (suc n) ≡ turn n (G n)) where
   -- no code changes anything
@@ -23,11 +22,3 @@ module _ {X : Type 0} (turn : ℕ → X → X) (G : ℕ → X) (more : (n : ℕ)
       ⊎_elim (only_below n pin idle)
       (λ (h : n ≤ pin). none_counts n (λ c l. idle c (omega arith)) ∙ sym (past h))
       (cases_lt pin n)
-
-pub found_below : (f : ℕ → Bool) (n c : ℕ) → c < n → true ≡ f c → true ≡ any_below n f
-found_below f zero c l h = absurd (omega arith)
-found_below f (suc n) c l h =
-    ⊎_elim
-    (λ (e : c ≡ n). sym (or_right (any_below n f) (f n) (sym (h ∙ ap f e))))
-    (λ (ne : c ≢ n). sym (or_left (any_below n f) (f n) (sym (found_below f n c (omega arith) h))))
-    (cases_eq c n)

@@ -1,5 +1,5 @@
 -- Lists that are changed place by place.
-use Rattle.std.proofs.Common.{◌≡◌, ℕ, zero, suc, ◌+◌, ◌≢◌, List, [], ◌∷◌, map, length, get_or, set, sym, refl, ap, ◌∙◌, ap₂, zero-add, arith}
+use Rattle.std.proofs.Common.{◌≡◌, ℕ, zero, suc, ◌+◌, ◌≢◌, List, [], ◌∷◌, map, get_or, set, sym, refl, ap, ◌∙◌, ap₂, zero-add, arith}
 use Rattle.std.specs.List.{range_with_len}
 use Rattle.trellis.specs.Bids.{indexed}
 
@@ -8,11 +8,6 @@ module _ {X : Type 0} where
   unfolding indexed
   indexed-none F idle [] = refl
   indexed-none F idle (x ∷ xs) = ap₂ ◌∷◌ (sym (idle 0 x)) (indexed-none (λ t. F (suc t)) (λ t. idle (suc t)) xs)
-
-  pub length-indexed : (F : ℕ → X → X) (xs : List X) → length (indexed F xs) ≡ length xs
-  unfolding indexed
-  length-indexed F [] = refl
-  length-indexed F (x ∷ xs) = ap suc (length-indexed (λ t. F (suc t)) xs)
 
   pub indexed-indexed : (F G : ℕ → X → X) (xs : List X) → indexed G (indexed F xs) ≡ indexed (λ t x. G t (F t x)) xs
   unfolding indexed

@@ -1,9 +1,9 @@
 pub mod Folds
+pub mod Ranges
 pub mod Indexing
 pub mod Bidding
 pub mod Writing
 pub mod Extending
-pub mod Leaving
 pub mod Reading
 pub mod Back
 pub mod Checking

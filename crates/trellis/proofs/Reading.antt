@@ -1,7 +1,7 @@
--- Columns of the cells: which there are, and what a state past the last reads.
-use Rattle.std.proofs.Common.{◌≡◌, ℕ, ◌+◌, ◌*◌, ◌≤◌, List, get_or, arith}
+-- Columns of the cells: which there are.
+use Rattle.std.proofs.Common.{◌≡◌, ℕ, ◌+◌, ◌*◌, ◌≤◌, List, length, drop, arith}
+use Rattle.std.proofs.lemmas.List.{length-drop, length-take-le}
 use Rattle.std.proofs.lemmas.Nat.{mul-le}
-use Rattle.std.proofs.lemmas.List.{get_or_past, length-take}
 use Rattle.viterbi.specs.declared.Cell.{Cell}
 use Rattle.trellis.specs.Cells.{column_at}
 
@@ -9,6 +9,6 @@ use Rattle.trellis.specs.Cells.{column_at}
 pub column_before : (S n len i : ℕ) → n * S + S ≤ len → i ≤ n → i * S + S ≤ len
 column_before S n len i whole before = omega (arith, mul-le i S n S before (omega arith))
 
--- a state past the last has no cell
-pub column_past : {C : Type 0} (cells : List (Cell C)) (S n s : ℕ) (d : Cell C) → S ≤ s → get_or (column_at S n cells) s d ≡ d
-column_past cells S n s d past = get_or_past (column_at S n cells) s d (simp length-take (omega arith))
+-- and it has a cell for each state
+pub column_length : {C : Type 0} (S n : ℕ) (cells : List (Cell C)) → n * S + S ≤ length cells → length (column_at S n cells) ≡ S
+column_length S n cells whole = length-take-le S (drop (n * S) cells) (omega (arith, length-drop (n * S) cells))

@@ -1,11 +1,12 @@
 // The calls on a plate. What can refuse is tested before anything is written.
+// Each takes the machine and the cells: the caller lends the cells call by call (fixed memory, no heap), and in a struct that kept them what they hold would be lost to the proofs.
 ghost use Rattle.std.specs.Prelude.{◌≡◌, ◌+◌, ◌*◌, ◌≤◌, length, Some, None};
 ghost use Rattle.lines.specs.Checks.{answer};
-ghost use Rattle.trellis.specs.Calls.{add_check, added, added_cells, broken_cells, closed, closed_codes, closed_preview, early_check, line_empty, picked_state, pixels_of, ready_check, started, started_cells, struck, too_few_cells, with_line};
+ghost use Rattle.trellis.specs.Calls.{add_check, added, added_cells, close_check, closed, closed_codes, closed_preview, early_check, line_cost, line_empty, pixels_of, ready_check, start_check, started, started_cells, struck, too_few_cells, with_line};
 
-use crate::columns::{begin_line, can_extend_column, extend_line};
+use crate::columns::{Pixel, Trellis};
 use crate::plate::{OpenLine, Plate, Report};
-use crate::trace::{pick_state, picked_cost, way_is_sound, write_way_back};
+use crate::trace::Columns;
 use cost::Cost;
 use display::{DisplayMachine, Target};
 use lines::Fault;
@@ -15,7 +16,7 @@ use viterbi::Cell;
 const LINE_LIMIT: u16 = 1024;
 
 // How wide a line may be.
-const WIDEST: u16 = 640;
+pub const WIDEST: u16 = 640;
 
 // Refuses where the cells do not hold a column for each pixel of the width and column 0.
 fn check_cells<M: DisplayMachine>(
@@ -26,27 +27,12 @@ fn check_cells<M: DisplayMachine>(
 ) -> Result<(), Fault>
     ensures { result ≡ answer (too_few_cells (M.meaning machine.now).states cells width pixels) tt }
 {
-    if cells < (width as usize + 1) * machine.states() as usize {
+    if cells < (usize::from(width) + 1) * usize::from(machine.states()) {
         return Err(Fault::TooFewCells {
-            pixel: pixels as usize,
+            pixel: usize::from(pixels),
         });
     }
     Ok(())
-}
-
-// The state that close picks, if the way back from it is sound.
-fn sound_pick<M: DisplayMachine, C: Cost>(
-    machine: &M,
-    cells: &[Cell<C>],
-    n: usize,
-) -> Result<u16, Fault>
-    requires { n * (M.meaning machine.now).states + (M.meaning machine.now).states ≤ length cells.now }
-    ensures { result ≡ answer (broken_cells (M.meaning machine.now) C.kind n cells.now) (picked_state (M.meaning machine.now) C.kind n cells.now) }
-{
-    match pick_state(machine, cells, n) {
-        Some(last) if way_is_sound(machine, cells, n, last) => Ok(last),
-        _ => Err(Fault::BrokenCells { pixel: n }),
-    }
 }
 
 impl<C: Cost> Plate<C> {
@@ -60,6 +46,24 @@ impl<C: Cost> Plate<C> {
         }
     }
 
+    // The checks of start.
+    fn check_start<M: DisplayMachine>(
+        &self,
+        machine: &M,
+        cells: usize,
+        width: u16,
+    ) -> Result<(), Fault>
+        ensures { result ≡ answer (start_check (M.meaning machine.now) cells self.now.lines width) tt }
+    {
+        if self.lines >= LINE_LIMIT {
+            return Err(Fault::PlateFull);
+        }
+        if width == 0 || width > WIDEST {
+            return Err(Fault::BadWidth);
+        }
+        check_cells(machine, cells, width, 0)
+    }
+
     // Opens a line and writes column 0. A refusal gives the plate back.
     pub fn start<M: DisplayMachine>(
         self,
@@ -70,21 +74,17 @@ impl<C: Cost> Plate<C> {
         ensures value { result ≡ started (M.meaning machine.now) C.kind self cells.old width }
         ensures cells { cells.new ≡ started_cells (M.meaning machine.now) C.kind self cells.old width }
     {
-        if self.lines >= LINE_LIMIT {
-            return Err((self, Fault::PlateFull));
+        match self.check_start(machine, cells.len(), width) {
+            Ok(()) => {
+                Trellis { cells }.begin(machine);
+                Ok(OpenLine {
+                    plate: self,
+                    width,
+                    left: width,
+                })
+            }
+            Err(fault) => Err((self, fault)),
         }
-        if width == 0 || width > WIDEST {
-            return Err((self, Fault::BadWidth));
-        }
-        if let Err(fault) = check_cells(machine, cells.len(), width, 0) {
-            return Err((self, fault));
-        }
-        begin_line(machine, cells);
-        Ok(OpenLine {
-            plate: self,
-            width,
-            left: width,
-        })
     }
 
     // One line more. No plate comes near the count at which this stops.
@@ -162,7 +162,7 @@ impl<C: Cost> OpenLine<C> {
     {
         let pixels = self.pixels();
         check_cells(machine, cells, self.width, pixels)?;
-        let pixel = pixels as usize;
+        let pixel = usize::from(pixels);
         if pixels >= self.width {
             return Err(Fault::LineFull { pixel });
         }
@@ -172,26 +172,30 @@ impl<C: Cost> OpenLine<C> {
         }
     }
 
-    // The checks of pixel and pin.
+    // The checks of pixel and pin, whatever is wanted of the pixel.
     fn check_add<M: DisplayMachine>(
         &self,
         machine: &M,
         cells: &[Cell<C>],
-        target: Target,
         pin: Option<u8>,
     ) -> Result<(), Fault>
-        ensures { result ≡ answer (add_check (M.meaning machine.now) C.kind self.now cells.now target pin) tt }
+        ensures { (target : Target) → result ≡ answer (add_check (M.meaning machine.now) C.kind self.now cells.now target pin) tt }
     {
         self.check_early(machine, cells.len(), pin)?;
-        let pixel = self.pixels() as usize;
-        if !can_extend_column(machine, cells, pixel, pin) {
-            return Err(Fault::NoWay { pixel });
+        let pixels = usize::from(self.pixels());
+        let columns = Columns {
+            machine,
+            cells,
+            pixels,
+        };
+        if !columns.can_extend(pin) {
+            return Err(Fault::NoWay { pixel: pixels });
         }
         Ok(())
     }
 
-    // Pixel and pin, which is None for a pixel.
-    fn add<M: DisplayMachine>(
+    // Adds a pixel that may have the pin's code alone, or every code where there is no pin, and writes the next column.
+    pub fn add<M: DisplayMachine>(
         &mut self,
         machine: &M,
         cells: &mut [Cell<C>],
@@ -202,8 +206,14 @@ impl<C: Cost> OpenLine<C> {
         ensures line { self.new ≡ added (M.meaning machine.now) C.kind self.old cells.old target pin }
         ensures cells { cells.new ≡ added_cells (M.meaning machine.now) C.kind self.old cells.old target pin }
     {
-        self.check_add(machine, cells, target, pin)?;
-        extend_line(machine, cells, self.pixels() as usize, target.levels(), pin);
+        self.check_add(machine, cells, pin)?;
+        let pixels = usize::from(self.pixels());
+        let pixel = Pixel {
+            machine,
+            wanted: target.levels(),
+            pin,
+        };
+        Trellis { cells }.extend(pixels, &pixel);
         self.left -= 1;
         Ok(())
     }
@@ -231,7 +241,7 @@ impl<C: Cost> OpenLine<C> {
         ensures { result ≡ answer (ready_check (M.meaning machine.now) cells self.now.width codes preview (pixels_of self.now)) tt }
     {
         check_cells(machine, cells, self.width, self.pixels())?;
-        let pixel = self.pixels() as usize;
+        let pixel = usize::from(self.pixels());
         if pixel == 0 {
             return Err(Fault::LineEmpty);
         }
@@ -241,7 +251,33 @@ impl<C: Cost> OpenLine<C> {
         Ok(())
     }
 
+    // The cheapest line's cost. Its codes and its preview are written to the fronts of the buffers; a refusal writes nothing.
+    fn write_cheapest<M: DisplayMachine>(
+        &self,
+        machine: &M,
+        cells: &[Cell<C>],
+        codes: &mut [u8],
+        preview: &mut [u16],
+    ) -> Result<C, Fault>
+        ensures value { result ≡ answer (close_check (M.meaning machine.now) C.kind self.now cells.now codes.old preview.old) (line_cost (M.meaning machine.now) C.kind self.now cells.now) }
+        ensures coded { codes.new ≡ closed_codes (M.meaning machine.now) C.kind self.now cells.now codes.old preview.old }
+        ensures previewed { preview.new ≡ closed_preview (M.meaning machine.now) C.kind self.now cells.now codes.old preview.old }
+    {
+        self.check_ready(machine, cells.len(), codes.len(), preview.len())?;
+        // Made here and in check_add: a method would promise its three fields one by one, and each use here would carry them over.
+        let pixels = usize::from(self.pixels());
+        let columns = Columns {
+            machine,
+            cells,
+            pixels,
+        };
+        let last = columns.sound_pick()?;
+        columns.write_way_back(last, codes, preview);
+        Ok(columns.cost(last))
+    }
+
     // Picks the cheapest line, writes its codes and its preview to the fronts of the buffers, and rests the plate. A refusal writes nothing and gives the line back.
+    // The buffers stay two: C lends them, of two types, and either may be longer than the line and than the other.
     pub fn close<M: DisplayMachine>(
         self,
         machine: &M,
@@ -253,17 +289,10 @@ impl<C: Cost> OpenLine<C> {
         ensures coded { codes.new ≡ closed_codes (M.meaning machine.now) C.kind self cells.now codes.old preview.old }
         ensures previewed { preview.new ≡ closed_preview (M.meaning machine.now) C.kind self cells.now codes.old preview.old }
     {
-        if let Err(fault) = self.check_ready(machine, cells.len(), codes.len(), preview.len()) {
-            return Err((self, fault));
+        match self.write_cheapest(machine, cells, codes, preview) {
+            Ok(cost) => Ok((self.abandon().with_line(cost), cost)),
+            Err(fault) => Err((self, fault)),
         }
-        let pixel = self.pixels() as usize;
-        let last = match sound_pick(machine, cells, pixel) {
-            Ok(last) => last,
-            Err(fault) => return Err((self, fault)),
-        };
-        write_way_back(machine, cells, pixel, last, codes, preview);
-        let cost = picked_cost(machine, cells, pixel, last);
-        Ok((self.abandon().with_line(cost), cost))
     }
 
     // Drops the open line; the plate's lines and total stay.

@@ -6,4 +6,5 @@ mod columns;
 mod plate;
 mod trace;
 
+pub use calls::WIDEST;
 pub use plate::{OpenLine, Plate, Report};
