@@ -5,4 +5,3 @@ pub mod Opened
 pub mod Steps
 pub mod Answering
 pub mod Recording
-pub mod Refusing

@@ -11,9 +11,9 @@ use Rattle.trellis.specs.declared.plate.OpenLine.{OpenLine}
 use Rattle.trellis.specs.declared.plate.Plate.{Plate}
 use Rattle.trellis.specs.Calls.{answer_back, plate_full, line_empty, start_check, early_check, ready_check, started, started_cells, pixels_of, add_check, added, added_cells, struck, close_check, line_cost, with_line, closed as closing, closed_codes, closed_preview}
 use Rattle.trellis.specs.Cells.{begun}
-use Rattle.trellis.proofs.Checking.{Told, told, passed_both}
+use Rattle.trellis.proofs.Checking.{passed_both}
 use Rattle.viterbi.specs.declared.Cell.{Cell}
-use Rattle.run.specs.declared.entry.Answer.TheVariants.{Taken, Refused}
+use Rattle.run.specs.declared.entry.Answer.TheVariants.{Taken}
 use Rattle.run.specs.declared.state.State.TheVariants.{Drawing}
 use Rattle.run.specs.Account.{Wanted, ClosedLine, drawing, without_last}
 use Rattle.run.specs.Rivals.{Rival, Best}
@@ -35,8 +35,8 @@ refused_back {A} {B} (Some other) x b back fault e =
 module _ {C : Type 0} (m : Meaning) (k : Kind C) where
   -- pixel and pin, by the fault that an earlier check finds and by whether the next column can be reached
   add_by : (check : Option Fault) (b : Bool) (pixels : List Wanted) (n : ℕ) → ((b ≡ true) ↔ ((codes : List ℕ) × Rival m pixels codes)) →
-      (and_then check (cond b None (Some (NoWay n))) ≡ None → AddRight m k check pixels n Taken)
-      × ((fault : Fault) → and_then check (cond b None (Some (NoWay n))) ≡ Some fault → AddRight m k check pixels n (Refused fault))
+      (and_then check (cond b None (Some (NoWay n))) ≡ None → AddRight m k check pixels n (Ok Taken))
+      × ((fault : Fault) → and_then check (cond b None (Some (NoWay n))) ≡ Some fault → AddRight m k check pixels n (Err fault))
   add_by (Some early) b pixels n iff = (λ e. absurd (true≢false (cc)), λ fault e. cc)
   add_by None true pixels n iff = (λ e. inl (refl, iff.0 refl), λ fault e. absurd (true≢false (cc)))
   add_by None false pixels n iff = (λ e. absurd (true≢false (cc)), λ fault e. inr (cc, λ codes r. true≢false (sym (iff.1 (codes, r)))))
@@ -77,34 +77,31 @@ module _ {C : Type 0} (m : Meaning) (k : Kind C) where
 
     module _ (width : ℕ) (pixels : List Wanted) (line : OpenLine C) (cells : List (Cell C)) (right : LineRight m k closed width pixels line cells) where
       module _ (p : Wanted) where
-        pub add_refused : (fault : Fault) → Told (Some fault) (add_check m k line cells p.target p.pin) →
-            AddRight m k (early_check m (length cells) width p.pin (length pixels)) (reverse (p ∷ pixels)) (length pixels) (Refused fault)
+        pub add_refused : (fault : Fault) → add_check m k line cells p.target p.pin ≡ Some fault →
+            AddRight m k (early_check m (length cells) width p.pin (length pixels)) (reverse (p ∷ pixels)) (length pixels) (Err fault)
             × (added m k line cells p.target p.pin ≡ line) × (added_cells m k line cells p.target p.pin ≡ cells)
-        add_refused fault e =
-            let check = told (Some fault) (add_check m k line cells p.target p.pin) tt tt e in
+        add_refused fault check =
             let stays = add_leaves m k line cells p.target p.pin fault check in
             ((add_by _ _ _ _ (some_rival m k sound law p pixels)).1 fault (sym (add_check_is m k width pixels line cells right.drawn p) ∙ check), stays.0, stays.1)
 
-        pub add_taken : Told None (add_check m k line cells p.target p.pin) →
-            AddRight m k (early_check m (length cells) width p.pin (length pixels)) (reverse (p ∷ pixels)) (length pixels) Taken
+        pub add_taken : add_check m k line cells p.target p.pin ≡ None →
+            AddRight m k (early_check m (length cells) width p.pin (length pixels)) (reverse (p ∷ pixels)) (length pixels) (Ok Taken)
             × LineRight m k closed width (p ∷ pixels) (added m k line cells p.target p.pin) (added_cells m k line cells p.target p.pin)
-        add_taken e =
-            let check = told None (add_check m k line cells p.target p.pin) tt tt e in (
-              (add_by _ _ _ _ (some_rival m k sound law p pixels)).0 (sym (add_check_is m k width pixels line cells right.drawn p) ∙ check),
-              record {
-                plate = subst (PlateRight m k closed) (sym (added_plate m k line cells p.target p.pin)) right.plate;
-                room = right.room;
-                drawn = (add_opens m k width pixels line cells right.drawn sound law p check).0;
-              },
-            )
+        add_taken check = (
+          (add_by _ _ _ _ (some_rival m k sound law p pixels)).0 (sym (add_check_is m k width pixels line cells right.drawn p) ∙ check),
+          record {
+            plate = subst (PlateRight m k closed) (sym (added_plate m k line cells p.target p.pin)) right.plate;
+            room = right.room;
+            drawn = (add_opens m k width pixels line cells right.drawn sound law p check).0;
+          },
+        )
 
-      pub back_refused : (fault : Fault) → Told (Some fault) (line_empty (pixels_of line)) →
+      pub back_refused : (fault : Fault) → line_empty (pixels_of line) ≡ Some fault →
           (line_empty (length pixels) ≡ Some fault) × (struck line ≡ line)
-      back_refused fault e =
-          let check = told (Some fault) (line_empty (pixels_of line)) tt tt e in (
-            ap line_empty (sym (has_pixels m k width pixels line cells right.drawn)) ∙ check,
-            ap (λ ch. left ch (record { plate = line.plate; width = line.width; left = line.left + 1 }) line) check,
-          )
+      back_refused fault check = (
+        ap line_empty (sym (has_pixels m k width pixels line cells right.drawn)) ∙ check,
+        ap (λ ch. left ch (record { plate = line.plate; width = line.width; left = line.left + 1 }) line) check,
+      )
 
       module _ (codes preview : List ℕ) where
         ready_is : close_check m k line cells codes preview ≡ ready_check m (length cells) width (length codes) (length preview) (length pixels)
@@ -140,20 +137,18 @@ module _ {C : Type 0} (m : Meaning) (k : Kind C) where
 
     -- back strikes the last pixel
     pub back_taken : (width : ℕ) (pixels : List Wanted) (line : OpenLine C) (cells : List (Cell C)) → LineRight m k closed width pixels line cells →
-        Told None (line_empty (pixels_of line)) →
+        line_empty (pixels_of line) ≡ None →
         (line_empty (length pixels) ≡ None) × StandRight m k closed (without_last (drawing width pixels)) (Drawing (struck line)) cells
-    back_taken width [] line cells right e =
-        let check = told None (line_empty (pixels_of line)) tt tt e in
+    back_taken width [] line cells right check =
         absurd (true≢false (cc (sym (ap line_empty (has_pixels m k width [] line cells right.drawn)) ∙ check)))
-    back_taken width (p ∷ pixels) line cells right e =
-        let check = told None (line_empty (pixels_of line)) tt tt e in (
-          not_empty (length pixels),
-          record {
-            plate = subst (PlateRight m k closed) (sym (struck_plate (line_empty (pixels_of line)))) right.plate;
-            room = right.room;
-            drawn = back_opens m k width p pixels line cells right.drawn check;
-          },
-        )
+    back_taken width (p ∷ pixels) line cells right check = (
+      not_empty (length pixels),
+      record {
+        plate = subst (PlateRight m k closed) (sym (struck_plate (line_empty (pixels_of line)))) right.plate;
+        room = right.room;
+        drawn = back_opens m k width p pixels line cells right.drawn check;
+      },
+    )
       where
         not_empty : (n : ℕ) → line_empty (suc n) ≡ None
         not_empty n = grind (arith, nat_tests)

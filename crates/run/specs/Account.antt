@@ -1,10 +1,11 @@
 -- The account of a run, kept from the record of its calls and answers alone.
-use Rattle.std.specs.Prelude.{ℕ, Bool, true, false, List, [], ◌∷◌, reverse, Some, None, vec_items, Option}
+use Rattle.std.specs.Prelude.{ℕ, Bool, true, false, List, [], ◌∷◌, reverse, Some, None, Ok, Err, vec_items, Option, Result}
 use Rattle.display.specs.declared.colour.Target.{Target}
+use Rattle.lines.specs.declared.fault.Fault.{Fault}
 use Rattle.run.specs.declared.entry.Call.{Call}
 use Rattle.run.specs.declared.entry.Call.TheVariants.{Start, Pixel, Pin, Back, Close, Abandon, Report}
 use Rattle.run.specs.declared.entry.Answer.{Answer}
-use Rattle.run.specs.declared.entry.Answer.TheVariants.{Taken, Closed, Reported, Refused}
+use Rattle.run.specs.declared.entry.Answer.TheVariants.{Taken, Closed, Reported}
 use Rattle.run.specs.declared.entry.Entry.{Entry}
 
 -- one pixel of a line: its target, and its pin's code if it is pinned
@@ -81,14 +82,14 @@ after_taken stand Report = ended
 
 module _ {C : Type 0} where
   -- the account after one more entry of the record; a refused call changes nothing
-  abbrev pub entered : Account C → Call → Answer C → Account C
-  entered a call Taken = record { closed = a.closed; stand = after_taken a.stand call }
-  entered a call (Closed codes preview cost) = record {
+  abbrev pub entered : Account C → Call → Result (Answer C) Fault → Account C
+  entered a call (Ok Taken) = record { closed = a.closed; stand = after_taken a.stand call }
+  entered a call (Ok (Closed codes preview cost)) = record {
     closed = record { pixels = drawn a.stand; codes = vec_items codes; preview = vec_items preview; cost = cost } ∷ a.closed;
     stand = after_taken a.stand call;
   }
-  entered a call (Reported lines total) = record { closed = a.closed; stand = after_taken a.stand call }
-  entered a call (Refused fault) = a
+  entered a call (Ok (Reported lines total)) = record { closed = a.closed; stand = after_taken a.stand call }
+  entered a call (Err fault) = a
 
   -- and after a whole record
   abbrev pub account_from : Account C → List (Entry C) → Account C

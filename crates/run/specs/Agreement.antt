@@ -4,11 +4,10 @@ use Rattle.std.specs.List.{AllByRecursion}
 use Rattle.cost.specs.Kind.{Kind}
 use Rattle.display.specs.Colours.{levels_of}
 use Rattle.display.specs.Machine.{Meaning}
-use Rattle.lines.specs.Checks.{answer}
 use Rattle.lines.specs.declared.fault.Fault.{Fault}
 use Rattle.trellis.specs.declared.plate.OpenLine.{OpenLine}
 use Rattle.trellis.specs.declared.plate.Plate.{Plate}
-use Rattle.trellis.specs.Calls.{line_empty, line_limit, pixels_of, struck}
+use Rattle.trellis.specs.Calls.{line_limit}
 use Rattle.trellis.specs.Cells.{column_at}
 use Rattle.trellis.specs.Stages.{stage}
 use Rattle.viterbi.specs.Columns.{first_column, last_column}
@@ -17,22 +16,23 @@ use Rattle.viterbi.specs.declared.Cell.{Cell}
 use Rattle.run.specs.declared.state.State.{State}
 use Rattle.run.specs.declared.state.State.TheVariants.{Resting, Drawing, Ended}
 use Rattle.run.specs.declared.entry.Answer.{Answer}
-use Rattle.run.specs.declared.entry.Answer.TheVariants.{Taken, Refused}
+use Rattle.run.specs.declared.entry.Answer.TheVariants.{Taken}
 use Rattle.run.specs.declared.entry.Call.{Call}
 use Rattle.run.specs.declared.state.Step.{Step}
-use Rattle.run.specs.declared.state.Step.TheVariants.{Answered, NotFound, NoMemory}
+use Rattle.run.specs.declared.state.Unanswered.{Unanswered}
+use Rattle.run.specs.declared.state.Unanswered.TheVariants.{NotFound, NoMemory}
 use Rattle.run.specs.Account.{Wanted, ClosedLine, Stand, resting, drawing, ended, Account, entered, finds}
 use Rattle.run.specs.Rivals.{Best, total_of}
 use Rattle.run.specs.Promise.{RightAt}
 
 -- the answer of a call that gives nothing but its refusal
-abbrev pub plain : {C : Type 0} → Result (Unit {0}) Fault → Answer C
-plain (Ok done) = Taken
-plain (Err fault) = Refused fault
+abbrev pub plain : {C : Type 0} → Result (Unit {0}) Fault → Result (Answer C) Fault
+plain (Ok done) = Ok Taken
+plain (Err fault) = Err fault
 
--- what back comes to
-abbrev pub struck_step : {C : Type 0} → OpenLine C → Step C
-struck_step line = Answered (Drawing (struck line)) (plain (answer (line_empty (pixels_of line)) tt))
+-- and its step, on the open line
+abbrev pub plain_step : {C : Type 0} → OpenLine C → Result (Unit {0}) Fault → Step C
+plain_step line done = record { state = Drawing line; answer = Ok (plain done) }
 
 module _ {C : Type 0} (m : Meaning) (k : Kind C) where
   -- the stages of pixels, both with the last first
@@ -80,14 +80,11 @@ module _ {C : Type 0} (m : Meaning) (k : Kind C) where
   Agrees a state cells = StandRight a.closed a.stand state cells
 
   -- what a call leaves: a right answer, and agreement with the account that has it; or the account says that the call finds nothing
-  abbrev pub StepRight : ℕ → Account C → Call → List (Cell C) → Step C → Type 0
-  StepRight n a call cells (Answered state answer) = RightAt m k n a.closed a.stand call answer × Agrees (entered a call answer) state cells
-  StepRight n a call cells (NotFound state) = finds a.stand call ≡ false
-  StepRight n a call cells (NoMemory state) = Unit {0}
+  abbrev pub StepRight : ℕ → Account C → Call → List (Cell C) → State C → Result (Result (Answer C) Fault) Unanswered → Type 0
+  StepRight n a call cells state (Ok answer) = RightAt m k n a.closed a.stand call answer × Agrees (entered a call answer) state cells
+  StepRight n a call cells state (Err NotFound) = finds a.stand call ≡ false
+  StepRight n a call cells state (Err (NoMemory error)) = Unit {0}
 
-  -- the account of a plate at rest, and of an open line
-  abbrev pub at_rest : List (ClosedLine C) → Account C
-  at_rest lines = record { closed = lines; stand = resting }
-
-  abbrev pub in_line : List (ClosedLine C) → ℕ → List Wanted → Account C
-  in_line lines width pixels = record { closed = lines; stand = drawing width pixels }
+  -- a step from a state and its cells, for each account that agrees with them
+  abbrev pub StepFrom : State C → List (Cell C) → Call → List (Cell C) → Step C → Type 0
+  StepFrom state cells call after step = (a : Account C) → Agrees a state cells → StepRight (length cells) a call after step.state step.answer

@@ -1,5 +1,5 @@
 -- The promise over every run.
-use Rattle.std.specs.Prelude.{◌≡◌, ℕ, false, ◌⊎◌, List, [], ◌∷◌, map, reverse, length, take, drop, Some, None, vec_items, Option}
+use Rattle.std.specs.Prelude.{◌≡◌, ℕ, false, ◌⊎◌, List, [], ◌∷◌, map, reverse, length, take, drop, Some, None, Ok, Err, vec_items, Option, Result}
 use Rattle.cost.specs.Kind.{Kind, AtMost}
 use Rattle.display.specs.Machine.{Meaning}
 use Rattle.lines.specs.declared.fault.Fault.{Fault}
@@ -9,35 +9,35 @@ use Rattle.viterbi.specs.Totals.{total}
 use Rattle.run.specs.declared.entry.Call.{Call}
 use Rattle.run.specs.declared.entry.Call.TheVariants.{Start, Pixel, Pin, Back, Close, Abandon, Report}
 use Rattle.run.specs.declared.entry.Answer.{Answer}
-use Rattle.run.specs.declared.entry.Answer.TheVariants.{Taken, Closed, Reported, Refused}
+use Rattle.run.specs.declared.entry.Answer.TheVariants.{Taken, Closed, Reported}
 use Rattle.run.specs.declared.entry.Entry.{Entry}
 use Rattle.run.specs.Account.{Wanted, ClosedLine, Stand, resting, drawing, ended, Account, new_account, finds, entered, account_from}
 use Rattle.run.specs.Rivals.{Rival, Best, total_of, Choice, choice_costs}
 
 -- taken if no check finds a fault, else refused by the first that does
-abbrev pub by_check : {C : Type 0} → Option Fault → Answer C
-by_check None = Taken
-by_check (Some fault) = Refused fault
+abbrev pub by_check : {C : Type 0} → Option Fault → Result (Answer C) Fault
+by_check None = Ok Taken
+by_check (Some fault) = Err fault
 
 module _ {C : Type 0} (m : Meaning) (k : Kind C) where
   -- what pixel and pin answer, by the fault that an earlier check finds and by the line with the new pixel:
   -- refused by number 8 exactly where that line has no rival at all
-  abbrev pub AddRight : Option Fault → List Wanted → ℕ → Answer C → Type 0
-  AddRight (Some fault) pixels n answer = answer ≡ Refused fault
+  abbrev pub AddRight : Option Fault → List Wanted → ℕ → Result (Answer C) Fault → Type 0
+  AddRight (Some fault) pixels n answer = answer ≡ Err fault
   AddRight None pixels n answer =
-      ((answer ≡ Taken) × ((codes : List ℕ) × Rival m pixels codes))
-      ⊎ ((answer ≡ Refused (NoWay n)) × ((codes : List ℕ) → Rival m pixels codes → ⊥))
+      ((answer ≡ Ok Taken) × ((codes : List ℕ) × Rival m pixels codes))
+      ⊎ ((answer ≡ Err (NoWay n)) × ((codes : List ℕ) → Rival m pixels codes → ⊥))
 
   -- what close answers where no check finds a fault: the line that is promised
-  abbrev pub ClosesBest : List Wanted → Answer C → Type 0
-  ClosesBest pixels Taken = ⊥
-  ClosesBest pixels (Closed codes preview cost) = Best m k (record { pixels = pixels; codes = vec_items codes; preview = vec_items preview; cost = cost })
-  ClosesBest pixels (Reported lines total) = ⊥
-  ClosesBest pixels (Refused fault) = ⊥
+  abbrev pub ClosesBest : List Wanted → Result (Answer C) Fault → Type 0
+  ClosesBest pixels (Ok Taken) = ⊥
+  ClosesBest pixels (Ok (Closed codes preview cost)) = Best m k (record { pixels = pixels; codes = vec_items codes; preview = vec_items preview; cost = cost })
+  ClosesBest pixels (Ok (Reported lines total)) = ⊥
+  ClosesBest pixels (Err fault) = ⊥
 
   -- what close answers: refused by the fault that an early check finds; else the line that is promised
-  abbrev pub CloseRight : Option Fault → List Wanted → Answer C → Type 0
-  CloseRight (Some fault) pixels answer = answer ≡ Refused fault
+  abbrev pub CloseRight : Option Fault → List Wanted → Result (Answer C) Fault → Type 0
+  CloseRight (Some fault) pixels answer = answer ≡ Err fault
   CloseRight None pixels answer = ClosesBest pixels answer
 
   -- what a report answers: how many lines are closed, and their total; no other choice of rivals totals less
@@ -46,15 +46,15 @@ module _ {C : Type 0} (m : Meaning) (k : Kind C) where
     pub total_is : sum ≡ total_of m k closed
     pub least : (others : List (List ℕ)) → Choice m k closed others → AtMost k sum (total k (choice_costs m k closed others))
 
-  abbrev pub ReportRight : List (ClosedLine C) → Answer C → Type 0
-  ReportRight closed Taken = ⊥
-  ReportRight closed (Closed codes preview cost) = ⊥
-  ReportRight closed (Reported lines sum) = Reports closed lines sum
-  ReportRight closed (Refused fault) = ⊥
+  abbrev pub ReportRight : List (ClosedLine C) → Result (Answer C) Fault → Type 0
+  ReportRight closed (Ok Taken) = ⊥
+  ReportRight closed (Ok (Closed codes preview cost)) = ⊥
+  ReportRight closed (Ok (Reported lines sum)) = Reports closed lines sum
+  ReportRight closed (Err fault) = ⊥
 
   module _ (cells : ℕ) where
     -- an answer is right, by the account before the call; no call is made that does not find what takes it
-    abbrev pub RightAt : List (ClosedLine C) → Stand → Call → Answer C → Type 0
+    abbrev pub RightAt : List (ClosedLine C) → Stand → Call → Result (Answer C) Fault → Type 0
     RightAt closed resting (Start width) answer = answer ≡ by_check (start_check m cells (length closed) width)
     RightAt closed resting (Pixel target) answer = ⊥
     RightAt closed resting (Pin target code) answer = ⊥
@@ -70,7 +70,7 @@ module _ {C : Type 0} (m : Meaning) (k : Kind C) where
     RightAt closed (drawing width pixels) Back answer = answer ≡ by_check (line_empty (length pixels))
     RightAt closed (drawing width pixels) (Close codes preview) answer =
         CloseRight (ready_check m cells width codes preview (length pixels)) (reverse pixels) answer
-    RightAt closed (drawing width pixels) Abandon answer = answer ≡ Taken
+    RightAt closed (drawing width pixels) Abandon answer = answer ≡ Ok Taken
     RightAt closed (drawing width pixels) Report answer = ⊥
     RightAt closed ended call answer = ⊥
 

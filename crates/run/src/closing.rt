@@ -1,16 +1,16 @@
 // Close, with buffers of the lengths asked for.
-ghost use Rattle.std.specs.Prelude.{◌≡◌, ℕ, List, length};
+ghost use Rattle.std.specs.Prelude.{◌≡◌, length, replicate, IfOk};
 ghost use Rattle.trellis.specs.Calls.{closed as closing, closed_codes, closed_preview};
-ghost use Rattle.run.specs.Account.{ClosedLine, Wanted};
-ghost use Rattle.run.specs.Agreement.{LineRight, StepRight, in_line};
+ghost use Rattle.run.specs.Agreement.{StepFrom};
 ghost use Rattle.run.specs.declared.entry.Call.TheVariants.{Close};
+ghost use Rattle.run.specs.declared.state.State.TheVariants.{Drawing};
 
 use crate::entry::Answer;
-use crate::state::{State, Step};
+use crate::state::{State, Step, Unanswered};
 use cost::Cost;
 use display::DisplayMachine;
 use lines::Fault;
-use std::alloc::Global;
+use std::alloc::{AllocError, Global};
 use trellis::{OpenLine, Plate};
 use viterbi::Cell;
 
@@ -30,6 +30,19 @@ pub fn close_into<M: DisplayMachine, C: Cost>(
     line.close(machine, cells, codes.as_mut_slice(), preview.as_mut_slice())
 }
 
+// Buffers for a close: so many codes, so many colours, all of them 0.
+pub fn buffers(
+    heap: Global,
+    codes: usize,
+    preview: usize,
+) -> Result<(Vec<u8>, Vec<u16>), AllocError>
+    ensures { IfOk result (λ made. (made.0.items ≡ replicate codes 0) × (made.1.items ≡ replicate preview 0)) }
+{
+    let codes = vec![in heap; 0u8; codes]?;
+    let preview = vec![in heap; 0u16; preview]?;
+    Ok((codes, preview))
+}
+
 pub(crate) fn close_line<M: DisplayMachine, C: Cost>(
     heap: Global,
     machine: &M,
@@ -38,35 +51,44 @@ pub(crate) fn close_line<M: DisplayMachine, C: Cost>(
     codes: usize,
     preview: usize,
 ) -> Step<C>
-    ensures { (lines : List (ClosedLine C)) (width : ℕ) (pixels : List Wanted) → LineRight (M.meaning machine.now) C.kind lines width pixels line cells.now → StepRight (M.meaning machine.now) C.kind (length cells.now) (in_line (M.meaning machine.now) C.kind lines width pixels) (Close codes preview) cells.now result }
+    ensures { StepFrom (M.meaning machine.now) C.kind (Drawing line) cells.now (Close codes preview) cells.now result }
 {
-    let Ok(mut codes) = vec![in heap; 0u8; codes] else {
-        return Step::NoMemory {
+    match buffers(heap, codes, preview) {
+        Ok((codes, preview)) => close_lent(machine, cells, line, codes, preview),
+        Err(error) => Step {
             state: State::Drawing(line),
-        };
-    };
-    let Ok(mut preview) = vec![in heap; 0u16; preview] else {
-        return Step::NoMemory {
-            state: State::Drawing(line),
-        };
-    };
-    let pixels = line.pixels() as usize;
+            answer: Err(Unanswered::NoMemory(error)),
+        },
+    }
+}
+
+// Close, with these buffers, which are cut to the line.
+fn close_lent<M: DisplayMachine, C: Cost>(
+    machine: &M,
+    cells: &[Cell<C>],
+    line: OpenLine<C>,
+    mut codes: Vec<u8>,
+    mut preview: Vec<u16>,
+) -> Step<C>
+    ensures { StepFrom (M.meaning machine.now) C.kind (Drawing line) cells.now (Close (length codes.items) (length preview.items)) cells.now result }
+{
+    let pixels = usize::from(line.pixels());
     match close_into(machine, cells, line, &mut codes, &mut preview) {
         Ok((plate, cost)) => {
             codes.truncate(pixels);
             preview.truncate(pixels);
-            Step::Answered {
+            Step {
                 state: State::Resting(plate),
-                answer: Answer::Closed {
+                answer: Ok(Ok(Answer::Closed {
                     codes,
                     preview,
                     cost,
-                },
+                })),
             }
         }
-        Err((line, fault)) => Step::Answered {
+        Err((line, fault)) => Step {
             state: State::Drawing(line),
-            answer: Answer::Refused { fault },
+            answer: Ok(Err(fault)),
         },
     }
 }

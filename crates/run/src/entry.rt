@@ -14,7 +14,7 @@ pub enum Call {
     Report,
 }
 
-// What a call answered: a taken close its line, a report what the plate came to, a refused call its fault.
+// What a call answered that was not refused: a close its line, a report what the plate came to.
 #[derive(Drop)]
 pub enum Answer<C: Drop> {
     Taken,
@@ -23,17 +23,16 @@ pub enum Answer<C: Drop> {
         preview: Vec<u16>,
         cost: C,
     },
+    // Not by trellis's Report: these are the record's own words, which the promise takes apart.
     Reported {
         lines: u16,
         total: C,
     },
-    Refused {
-        fault: Fault,
-    },
 }
 
+// A call and its answer, which is a fault where the call was refused.
 #[derive(Drop)]
 pub struct Entry<C: Drop> {
     pub call: Call,
-    pub answer: Answer<C>,
+    pub answer: Result<Answer<C>, Fault>,
 }

@@ -7,6 +7,6 @@ mod running;
 mod state;
 mod step;
 
-pub use closing::close_into;
+pub use closing::{buffers, close_into};
 pub use entry::{Answer, Call, Entry};
 pub use running::{numbers_stand, run};

@@ -1,6 +1,6 @@
 use Rattle.std.proofs.Common.{length, vec_items}
 use Rattle.run.proofs.Recording.{Recorded}
-use Rattle.run.proofs.running.run.Given as goal
+use Rattle.run.proofs.running.make_calls.Given as goal
 
 abbrev pub invariant-loop-call : goal.invariant-loop-call
 invariant-loop-call g l =
