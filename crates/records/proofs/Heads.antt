@@ -8,7 +8,6 @@ use Rattle.records.specs.declared.display_kind.CostKind.TheVariants.{Summed}
 use Rattle.records.specs.declared.display_kind.MachineKind.{MachineKind}
 use Rattle.records.specs.declared.fault.FileFault.{FileFault}
 use Rattle.records.specs.declared.fault.FileFault.TheVariants.{Plate}
-use Rattle.records.specs.declared.fault.PlateFault.{PlateFault}
 use Rattle.records.specs.declared.fault.PlateFault.TheVariants.{OutOfRange}
 use Rattle.records.specs.declared.record.Mark.{Mark}
 use Rattle.records.specs.declared.record.Mark.TheVariants.{Header, Palette, Pins, Line, End}
@@ -54,7 +53,7 @@ palette_alone Pins after h = (cc, cc)
 palette_alone Line after h = (cc, cc)
 palette_alone End after h = (cc, cc)
 
-ok_if : {A E : Type 0} (b : Bool) (x y : A) (e : E) → Ok x ≡ cond b (Ok y) (Err e) → (b ≡ true) × (x ≡ y)
+pub ok_if : {A E : Type 0} (b : Bool) (x y : A) (e : E) → Ok x ≡ cond b (Ok y) (Err e) → (b ≡ true) × (x ≡ y)
 ok_if true x y e h = (refl, cc)
 ok_if false x y e h = (cc, cc)
 
@@ -77,11 +76,6 @@ module _ {limit : ℕ} {input : List ℕ} {m c w : ℕ} {after : Stage} (h : Hea
 
   right_is : header_right (get_or (body_at input) 0 0) (get_or (body_at input) 1 0) (header_width input) ≡ header_right m c w
   right_is = rw (sym is.0, sym is.1, sym is.2)
-
-  pub header_out : (fault : PlateFault) → Err fault ≡ checked_header m c w → Err (Plate fault) ≡ heading limit input
-  header_out fault e =
-      let wrong = err_if (header_right m c w) _ _ fault e in
-      rw (le-ltb limit (length input) h.size, h.taken.passed, right_is, wrong.0, wrong.1)
 
 -- the header is right
 pub record HeaderRead (limit : ℕ) (input : List ℕ) (machine : MachineKind) (cost : CostKind) (colours w : ℕ) (after : Stage) : Type 0 where

@@ -1,6 +1,7 @@
 -- The record at the front of the input.
-use Rattle.std.proofs.Common.{◌≡◌, ℕ, ◌+◌, ◌≤◌, true, List, length, take, drop, is_some, Some, None, Option, unwrap_or, sym, refl, ap, ◌∙◌, subst, arith}
+use Rattle.std.proofs.Common.{◌≡◌, ℕ, ◌+◌, ◌≤◌, true, List, length, take, drop, slice_range, is_some, Some, None, Ok, Option, unwrap_or, sym, refl, ap, ◌∙◌, subst, arith}
 use Rattle.std.proofs.lemmas.Bool.{le-ltb}
+use Rattle.std.specs.Option.{ok_or}
 use Rattle.records.specs.declared.record.Mark.{Mark}
 use Rattle.records.specs.declared.record.Record.{Record}
 use Rattle.records.specs.declared.record.Stage.{Stage}
@@ -10,6 +11,13 @@ use Rattle.records.specs.Records.{asks, mark_at, length_at, next_stage, RecordIs
 is_value : {A : Type 0} (o : Option A) (x : A) → is_some o ≡ true → o ≡ Some (unwrap_or o x)
 is_value None x h = cc
 is_value (Some y) x h = refl
+
+pub front : (xs : List ℕ) (n : ℕ) → slice_range xs 0 n ≡ take n xs
+front xs n = grind arith
+
+pub is_known : {A E : Type 0} (o : Option A) (x : A) (e : E) → Ok x ≡ ok_or o e → o ≡ Some x
+is_known None x e h = cc
+is_known (Some y) x e h = cc
 
 -- a record that passes each check is taken
 pub takes : (colours width : ℕ) (before after : Stage) (at : ℕ) (input body : List ℕ) (piece : Record) (mark : Mark) (n : ℕ) →

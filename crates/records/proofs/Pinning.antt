@@ -1,34 +1,92 @@
--- One pin more of a PN body.
-use Rattle.std.proofs.Common.{◌≡◌, ℕ, ◌+◌, ◌*◌, ◌<◌, ◌≤◌, false, ◌⊎◌, List, [], ◌∷◌, length, get_or, drop, Some, refl, inl, inr, arith, length-drop}
-use Rattle.std.proofs.lemmas.Bool.{and_left, and_right, eq-eqb, le-leb, le-ltb, lt-leb, lt-ltb, ne_eqb}
-use Rattle.lines.proofs.Walks.{three_more}
+-- Pins of three bytes each, as `as_chunks` takes them.
+use Rattle.std.proofs.Common.{◌≡◌, ℕ, zero, suc, ◌+◌, ◌/◌, ◌<◌, ◌≤◌, Bool, true, false, cond, ◌&&◌, List, [], ◌∷◌, map, length, get_or, IsSomeAnd, MatchOption, Some, None, Option, refl, sym, ap, ◌∙◌, arith, nat_eq, nat_lt, Bor}
+use Rattle.std.proofs.lemmas.Bool.{and_left, and_right, le-leb, lt-leb, ltb-true, ltb-false}
+use Rattle.std.specs.List.{AllAdjacentBelow, IsAllAdjacentAnswer, find, list_all}
+use Rattle.std.specs.Option.{option_map}
+use Rattle.std.specs.Simd.{first_chunks}
 use Rattle.records.specs.Letters.{number_of_bytes}
-use Rattle.records.specs.Records.{pins_of, pin_at, rising_from}
+use Rattle.records.specs.Records.{PinAt, pins_of, pin_at, pins_right, rising_from}
 
-no_pin : (bytes : List ℕ) → length bytes < 3 → pins_of bytes ≡ []
-no_pin [] h = refl
-no_pin (low ∷ []) h = refl
-no_pin (low ∷ high ∷ []) h = refl
-no_pin (low ∷ high ∷ code ∷ bytes) h = absurd (omega arith)
+-- where a pin stands
+abbrev pub place_by : List ℕ → ℕ
+place_by pin = number_of_bytes (get_or pin 0 0) (get_or pin 1 0)
 
--- where fewer than three bytes are left, no pin is
-pub pins_end : (bytes : List ℕ) (i : ℕ) → length bytes < 3 * i + 3 → pins_of (drop (3 * i) bytes) ≡ []
-pins_end bytes i h = no_pin (drop (3 * i) bytes) (simp length-drop (omega arith))
+abbrev pub pin_by : List ℕ → PinAt
+pin_by pin = record { place = place_by pin; code = get_or pin 2 0 }
 
-module _ (bytes : List ℕ) (i place : ℕ) (h : 3 * i + 2 < length bytes) (e : place ≡ number_of_bytes (get_or bytes (3 * i) 0) (get_or bytes (3 * i + 1) 0)) where
-  pins_more : pins_of (drop (3 * i) bytes) ≡ record { place = place; code = get_or bytes (3 * i + 2) 0 } ∷ pins_of (drop (3 * (i + 1)) bytes)
-  pins_more = rw (three_more bytes i h, e)
+-- bytes over at the end make no pin
+pins_by_chunks : (bytes : List ℕ) → pins_of bytes ≡ map pin_by (first_chunks 3 (length bytes / 3) bytes)
+pins_by_chunks [] = refl
+pins_by_chunks (low ∷ []) = refl
+pins_by_chunks (low ∷ high ∷ []) = refl
+pins_by_chunks (low ∷ high ∷ code ∷ bytes) =
+    let more : suc (length bytes / 3) ≡ length (low ∷ high ∷ code ∷ bytes) / 3 = omega arith in
+    ap (λ ps. pin_by (low ∷ high ∷ code ∷ []) ∷ ps) (pins_by_chunks bytes)
+    ∙ ap (λ n. map pin_by (first_chunks 3 n (low ∷ high ∷ code ∷ bytes))) more
 
-  pub rising_stops : (width least : ℕ) → (place < least) ⊎ ((least ≤ place) × (width ≤ place)) → rising_from width least (pins_of (drop (3 * i) bytes)) ≡ false
-  rising_stops width least (inl a) = rw pins_more (and_left _ _ (and_left _ _ (lt-leb least place a)))
-  rising_stops width least (inr a) = rw pins_more (and_left _ _ (and_right _ _ (le-ltb place width a.1)))
+-- whether one pin stands before another
+abbrev pub stands_before : List ℕ → List ℕ → Bool
+stands_before x y = nat_lt (place_by x) (place_by y)
 
-  pub rising_more : (width least : ℕ) → least ≤ place → place < width →
-      rising_from width least (pins_of (drop (3 * i) bytes)) ≡ rising_from width (place + 1) (pins_of (drop (3 * (i + 1)) bytes))
-  rising_more width least a b = rw (pins_more, le-leb least place a, lt-ltb place width b)
+-- the same two pins, counted from the second pin on
+onward : (x : List ℕ) (pins : List (List ℕ)) (k : ℕ) (d : List ℕ) →
+    stands_before (get_or (x ∷ pins) (suc k) d) (get_or (x ∷ pins) (suc k + 1) d) ≡ stands_before (get_or pins k d) (get_or pins (k + 1) d)
+onward x pins k d = let next : suc k + 1 ≡ suc (k + 1) = omega arith in ap (λ i. stands_before (get_or pins k d) (get_or (x ∷ pins) i d)) next
 
-  pub pin_here : (wanted : ℕ) → place ≡ wanted → pin_at wanted (pins_of (drop (3 * i) bytes)) ≡ Some (get_or bytes (3 * i + 2) 0)
-  pin_here wanted a = rw (pins_more, eq-eqb place wanted a)
+module _ (width : ℕ) where
+  -- places that rise are right where each is below the width
+  rising : (least : ℕ) (pins : List (List ℕ)) → AllAdjacentBelow (λ x y. true ≡ stands_before x y) pins (length pins) → least ≤ place_by (get_or pins 0 []) →
+      rising_from width least (map pin_by pins) ≡ list_all (λ pin. nat_lt (place_by pin) width) pins
+  rising least [] rise h = refl
+  rising least (x ∷ []) rise h = rw (le-leb least (place_by x) h)
+  rising least (x ∷ y ∷ pins) rise h =
+      let less = ltb-true (place_by x) (place_by y) (sym (rise 0 [] (omega arith))) in
+      rw (le-leb least (place_by x) h, rising (place_by x + 1) (y ∷ pins) (λ k d l. rise (suc k) d (omega arith) ∙ onward x (y ∷ pins) k d) (omega (arith, less)))
 
-  pub pin_more : (wanted : ℕ) → (place ≡ wanted → ⊥) → pin_at wanted (pins_of (drop (3 * i) bytes)) ≡ pin_at wanted (pins_of (drop (3 * (i + 1)) bytes))
-  pin_more wanted a = rw (pins_more, ne_eqb place wanted a)
+  -- a place that is not above the one before it is wrong
+  falling : (least : ℕ) (pins : List (List ℕ)) (k : ℕ) → k + 1 < length pins → ((d : List ℕ) → false ≡ stands_before (get_or pins k d) (get_or pins (k + 1) d)) →
+      rising_from width least (map pin_by pins) ≡ false
+  falling least [] k h e = absurd (omega arith)
+  falling least (x ∷ []) k h e = absurd (omega arith)
+  falling least (x ∷ y ∷ pins) zero h e =
+      let not = ltb-false (place_by x) (place_by y) (sym (e [])) in
+      and_right _ _ (and_left _ _ (and_left _ _ (lt-leb (place_by x + 1) (place_by y) (omega (arith, not)))))
+  falling least (x ∷ y ∷ pins) (suc k) h e = and_right _ _ (falling (place_by x + 1) (y ∷ pins) k (omega arith) (λ d. e d ∙ onward x (y ∷ pins) k d))
+
+  sorted_or_not : (pins : List (List ℕ)) (sorted : Bool) → IsAllAdjacentAnswer (λ x y b. b ≡ stands_before x y) pins sorted →
+      rising_from width 0 (map pin_by pins) ≡ sorted && list_all (λ pin. nat_lt (place_by pin) width) pins
+  sorted_or_not pins true rise = rising 0 pins rise (omega arith)
+  sorted_or_not pins false (k, h, e) = falling 0 pins k h e
+
+  pub pins_sorted : (bytes : List ℕ) (chunks : List (List ℕ)) (sorted : Bool) → chunks ≡ first_chunks 3 (length bytes / 3) bytes →
+      IsAllAdjacentAnswer (λ x y b. b ≡ stands_before x y) chunks sorted → pins_right width bytes ≡ sorted && list_all (λ pin. nat_lt (place_by pin) width) chunks
+  pins_sorted bytes chunks sorted are rise =
+      ap (rising_from width 0) (pins_by_chunks bytes ∙ ap (map pin_by) (sym are)) ∙ sorted_or_not chunks sorted rise
+
+-- the code of the first pin at a place
+pin_found : (place : ℕ) (chunks : List (List ℕ)) →
+    pin_at place (map pin_by chunks) ≡ option_map (λ chunk. get_or chunk 2 0) (find (λ chunk. nat_eq (place_by chunk) place) chunks)
+pin_found place [] = refl
+pin_found place (chunk ∷ chunks) = here_or_on (nat_eq (place_by chunk) place) _ _ (pin_found place chunks)
+  where
+    here_or_on : (b : Bool) (o : Option ℕ) (found : Option (List ℕ)) → o ≡ option_map (λ chunk'. get_or chunk' 2 0) found →
+        cond b (Some (get_or chunk 2 0)) o ≡ option_map (λ chunk'. get_or chunk' 2 0) (cond b (Some chunk) found)
+    here_or_on true o found e = refl
+    here_or_on false o found e = e
+
+-- what `map` makes of an option, where each call gives f
+pub mapped : {A B : Type 0} (o : Option A) (r : Option B) (f : A → B) (P : A → B → Type 0) → MatchOption o (r ≡ None) (λ x. IsSomeAnd r (P x)) →
+    ((x : A) (y : B) → P x y → y ≡ f x) → r ≡ option_map f o
+mapped None r f P m h = m
+mapped (Some x) None f P m h = absurd m
+mapped (Some x) (Some y) f P m h = ap Some (h x y m)
+
+pub pin_read : (place : ℕ) (bytes : List ℕ) (chunks : List (List ℕ)) (found : Option (Bor (List ℕ))) → chunks ≡ first_chunks 3 (length bytes / 3) bytes →
+    option_map (λ chunk. chunk.now) found ≡ find (λ chunk. nat_eq (place_by chunk) place) chunks → option_map (λ chunk. get_or chunk.now 2 0) found ≡ pin_at place (pins_of bytes)
+pin_read place bytes chunks found are is =
+    code_of found ∙ ap (option_map (λ chunk. get_or chunk 2 0)) is ∙ sym (pin_found place chunks)
+    ∙ ap (pin_at place) (ap (map pin_by) are ∙ sym (pins_by_chunks bytes))
+  where
+    code_of : (o : Option (Bor (List ℕ))) → option_map (λ chunk. get_or chunk.now 2 0) o ≡ option_map (λ chunk. get_or chunk 2 0) (option_map (λ chunk. chunk.now) o)
+    code_of None = refl
+    code_of (Some chunk) = refl

@@ -1,49 +1,56 @@
--- One number more of a body of two bytes to each.
-use Rattle.std.proofs.Common.{◌≡◌, ℕ, ◌+◌, ◌*◌, ◌<◌, ◌≤◌, false, List, [], ◌∷◌, ◌++◌, length, get_or, take, drop, set, refl, arith, length-drop}
-use Rattle.std.proofs.lemmas.List.{append_assoc, append-nil, drop_more, take_all, take_more_set}
-use Rattle.std.proofs.lemmas.Bool.{le-leb, lt-leb}
+-- Numbers of two bytes each, as `as_chunks` takes them.
+use Rattle.std.proofs.Common.{◌≡◌, ℕ, zero, suc, ◌+◌, ◌*◌, ◌/◌, List, [], ◌∷◌, map, length, get_or, drop, refl, sym, ap, ◌∙◌, subst, arith, nat_le}
+use denote.Param.Members.{Mut, Called}
+use Rattle.std.proofs.lemmas.List.{drop_all, drop_more}
+use Rattle.std.specs.Array.{IsFromFnResult, IsFromFnResultFrom}
+use Rattle.std.specs.Int.{w16, from_le_bytes}
+use Rattle.std.specs.List.{list_all}
+use Rattle.std.specs.Simd.{first_chunks}
 use Rattle.records.specs.Letters.{number_of_bytes, words}
-use Rattle.records.specs.Records.{all_colours}
+use Rattle.records.specs.Records.{all_colours, palette_right}
 
-no_word : (bytes : List ℕ) → length bytes < 2 → words bytes ≡ []
-no_word [] h = refl
-no_word (low ∷ []) h = refl
-no_word (low ∷ high ∷ bytes) h = absurd (omega arith)
+abbrev pub word_of : List ℕ → ℕ
+word_of chunk = from_le_bytes w16 chunk
 
--- where fewer than two bytes are left, no number is
-pub words_end : (bytes : List ℕ) (i : ℕ) → length bytes < 2 * i + 2 → words (drop (2 * i) bytes) ≡ []
-words_end bytes i h = no_word (drop (2 * i) bytes) (simp length-drop (omega arith))
+pub word_of_two : (low high : ℕ) (rest : List ℕ) → word_of (low ∷ high ∷ rest) ≡ number_of_bytes low high
+word_of_two low high rest = omega arith
 
-two_more : (bytes : List ℕ) (i : ℕ) → 2 * i + 1 < length bytes → drop (2 * i) bytes ≡ get_or bytes (2 * i) 0 ∷ get_or bytes (2 * i + 1) 0 ∷ drop (2 * (i + 1)) bytes
-two_more bytes i h =
-    let a = drop_more bytes (2 * i) 0 (omega arith) in
-    let b = drop_more bytes (2 * i + 1) 0 (omega arith) in
-    let p : 2 * i + 1 + 1 ≡ 2 * (i + 1) = omega arith in
-    cc
+-- a byte over at the end makes no number
+pub words_by_chunks : (bytes : List ℕ) → words bytes ≡ map word_of (first_chunks 2 (length bytes / 2) bytes)
+words_by_chunks [] = refl
+words_by_chunks (low ∷ []) = refl
+words_by_chunks (low ∷ high ∷ bytes) =
+    let more : suc (length bytes / 2) ≡ length (low ∷ high ∷ bytes) / 2 = omega arith in
+    ap (λ word. word ∷ words bytes) (sym (word_of_two low high []))
+    ∙ ap (λ ws. word_of (low ∷ high ∷ []) ∷ ws) (words_by_chunks bytes)
+    ∙ ap (λ n. map word_of (first_chunks 2 n (low ∷ high ∷ bytes))) more
 
-module _ (bytes : List ℕ) (i word : ℕ) (h : 2 * i + 1 < length bytes) (e : word ≡ number_of_bytes (get_or bytes (2 * i) 0) (get_or bytes (2 * i + 1) 0)) where
-  words_more : words (drop (2 * i) bytes) ≡ word ∷ words (drop (2 * (i + 1)) bytes)
-  words_more = rw (two_more bytes i h, e)
+-- each number has at most twelve bits
+pub colours_each : (bytes : List ℕ) (chunks : List (List ℕ)) → chunks ≡ first_chunks 2 (length bytes / 2) bytes →
+    list_all (λ chunk. nat_le (word_of chunk) 4095) chunks ≡ palette_right bytes
+colours_each bytes chunks are = each chunks ∙ ap (λ cs. all_colours (map word_of cs)) are ∙ ap all_colours (sym (words_by_chunks bytes))
+  where
+    each : (chunks : List (List ℕ)) → list_all (λ chunk. nat_le (word_of chunk) 4095) chunks ≡ all_colours (map word_of chunks)
+    each [] = refl
+    each (chunk ∷ chunks) = let rest = each chunks in cc
 
-  pub colours_stop : 4095 < word → all_colours (words (drop (2 * i) bytes)) ≡ false
-  colours_stop a = rw (words_more, lt-leb word 4095 a)
-
-  pub colours_more : word ≤ 4095 → all_colours (words (drop (2 * i) bytes)) ≡ all_colours (words (drop (2 * (i + 1)) bytes))
-  colours_more a = rw (words_more, le-leb word 4095 a)
-
-  -- a number goes into its place
-  pub filled_more : (filled : List ℕ) → i < length filled → words bytes ≡ take i filled ++ words (drop (2 * i) bytes) →
-      words bytes ≡ take (i + 1) (set filled i word) ++ words (drop (2 * (i + 1)) bytes)
-  filled_more filled l inv =
-      let t = take_more_set filled i word l in
-      let a = append_assoc (take i filled) (word ∷ []) (words (drop (2 * (i + 1)) bytes)) in
-      let w = words_more in
+-- the numbers that calls of a closure that stays the same made, one of each chunk
+module _ {F : Type 0} (g : Mut F (ℕ × Unit {0}) ℕ) (f : F) (chunks : List (List ℕ))
+    (call : (k y : ℕ) (q : F) → Called g f (k, tt) y q → (q ≡ f) × (y ≡ word_of (get_or chunks k []))) where
+  words_from : (made : List ℕ) (i n : ℕ) → length made ≡ i + n → length chunks ≡ i + n → IsFromFnResultFrom g f made i n → drop i made ≡ map word_of (drop i chunks)
+  words_from made i zero l c from =
+      drop_all i made (omega arith) ∙ ap (map word_of) (sym (drop_all i chunks (omega arith)))
+  words_from made i (suc n) l c (q, y, at, called, from) =
+      let said = call i y q called in
+      let rest = words_from made (i + 1) n (omega arith) (omega arith) (subst (λ p. IsFromFnResultFrom g p made (i + 1) n) said.0 from) in
+      let d = drop_more made i 0 (omega arith) in
+      let e = drop_more chunks i [] (omega arith) in
+      let v = at.1 0 in
+      let w = said.1 in
       cc
 
--- each number is in its place
-pub filled_all : (bytes filled : List ℕ) (i : ℕ) → length filled ≤ i → length bytes < 2 * i + 2 → words bytes ≡ take i filled ++ words (drop (2 * i) bytes) → filled ≡ words bytes
-filled_all bytes filled i l h inv =
-    let t = take_all i filled l in
-    let n = append-nil filled in
-    let w = words_end bytes i h in
-    cc
+  pub words_made : (made bytes : List ℕ) (n : ℕ) → length bytes ≡ 2 * n → chunks ≡ first_chunks 2 (length bytes / 2) bytes → length chunks ≡ length bytes / 2 →
+      IsFromFnResult g f made n → made ≡ words bytes
+  words_made made bytes n long are many from =
+      words_from made 0 n (omega (arith, from.long)) (omega arith) from.each
+      ∙ ap (map word_of) are ∙ sym (words_by_chunks bytes)

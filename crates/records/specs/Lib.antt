@@ -3,3 +3,4 @@ pub mod Faults
 pub mod Records
 pub mod Cutting
 pub mod Headings
+pub mod Texts

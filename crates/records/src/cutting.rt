@@ -2,8 +2,8 @@
 ghost use Rattle.records.specs.Cutting.{Cuts, Whole};
 ghost use Rattle.records.specs.Records.{RecordIs};
 
-use crate::fault::{FileFault, PlateFault};
-use crate::record::{Mark, Record, Stage, body_length_is_right, mark_of};
+use crate::fault::FileFault;
+use crate::record::{Mark, Record, Stage, body_length_is_right};
 
 // The record that begins at byte `at`, from which on `input` is given. A refusal leaves the stage as it was.
 pub fn cut<'a>(
@@ -18,24 +18,20 @@ pub fn cut<'a>(
     let [m0, m1, l0, l1, rest @ ..] = input else {
         return Err(FileFault::NoRecord { at });
     };
-    let Some(mark) = mark_of(*m0, *m1) else {
+    let Ok(mark) = Mark::try_from([*m0, *m1]) else {
         return Err(FileFault::UnknownMark { at });
     };
     let mut next = *stage;
-    if !next.take(mark) {
-        return Err(FileFault::Plate {
-            fault: PlateFault::Misplaced { at },
-        });
-    }
-    let length = u16::from_le_bytes([*l0, *l1]) as usize;
+    next.take(mark, at)?;
+    let length = usize::from(u16::from_le_bytes([*l0, *l1]));
     if !body_length_is_right(colours, width, mark, length) {
         return Err(FileFault::BadLength { at });
     }
-    if rest.len() < length {
+    let Some(body) = rest.get(..length) else {
         return Err(FileFault::PastEnd { at });
-    }
+    };
     *stage = next;
-    Ok(record_of(mark, &rest[..length]))
+    Ok(record_of(mark, body))
 }
 
 fn record_of(mark: Mark, body: &[u8]) -> Record<'_>

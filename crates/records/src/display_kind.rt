@@ -1,14 +1,14 @@
 // The display and the cost kind that a header names.
 use display::{Fill, HalfBrite, Ham};
 
-#[derive(Clone, Copy)]
+#[derive(Clone, Copy, Debug, PartialEq, Eq)]
 pub enum MachineKind {
     Ham,
     HalfBrite,
     Fill,
 }
 
-#[derive(Clone, Copy)]
+#[derive(Clone, Copy, Debug, PartialEq, Eq)]
 pub enum CostKind {
     Summed,
     Worst,

@@ -1,27 +1,29 @@
 // The faults of the three layers. `at` is the byte at which the record begins, or must begin.
-ghost use Rattle.std.specs.Prelude.{◌≡◌};
+ghost use Rattle.std.specs.Prelude.{◌≡◌, Some};
 ghost use Rattle.records.specs.Faults.{file_layer, file_number, file_place, plate_layer, plate_number, plate_place};
+ghost use Rattle.records.specs.Texts.{fault_text, refused_line};
 ghost use Rattle.records.specs.declared.fault.FileFault.TheVariants.{Plate};
 ghost use Rattle.records.specs.declared.fault.PlateFault.TheVariants.{Trellis};
 
 use lines::{Fault, Layer};
+use std::fmt;
 
 // A call on the plate was refused, in the line of this number.
-#[derive(Clone, Copy)]
+#[derive(Clone, Copy, Debug, PartialEq, Eq)]
 pub struct LineFault {
     pub fault: Fault,
     pub line: u16,
     pub at: usize,
 }
 
-#[derive(Clone, Copy)]
+#[derive(Clone, Copy, Debug, PartialEq, Eq)]
 pub enum PlateFault {
     Misplaced { at: usize },
     OutOfRange { at: usize },
     Trellis { refused: LineFault },
 }
 
-#[derive(Clone, Copy)]
+#[derive(Clone, Copy, Debug, PartialEq, Eq)]
 pub enum FileFault {
     TooLong,
     NoRecord { at: usize },
@@ -52,8 +54,8 @@ impl PlateFault {
         ensures { result ≡ plate_number self }
     {
         match self {
-            PlateFault::Misplaced { at: _ } => 15,
-            PlateFault::OutOfRange { at: _ } => 18,
+            PlateFault::Misplaced { .. } => 15,
+            PlateFault::OutOfRange { .. } => 18,
             PlateFault::Trellis { refused } => refused.fault.number(),
         }
     }
@@ -62,7 +64,7 @@ impl PlateFault {
         ensures { result ≡ plate_layer self }
     {
         match self {
-            PlateFault::Misplaced { at: _ } | PlateFault::OutOfRange { at: _ } => Layer::Plate,
+            PlateFault::Misplaced { .. } | PlateFault::OutOfRange { .. } => Layer::Plate,
             PlateFault::Trellis { refused } => refused.fault.layer(),
         }
     }
@@ -71,8 +73,7 @@ impl PlateFault {
         ensures { result ≡ plate_place self }
     {
         match self {
-            PlateFault::Misplaced { at } => at,
-            PlateFault::OutOfRange { at } => at,
+            PlateFault::Misplaced { at } | PlateFault::OutOfRange { at } => at,
             PlateFault::Trellis { refused } => refused.at,
         }
     }
@@ -84,10 +85,10 @@ impl FileFault {
     {
         match self {
             FileFault::TooLong => 12,
-            FileFault::NoRecord { at: _ } => 13,
-            FileFault::UnknownMark { at: _ } => 14,
-            FileFault::BadLength { at: _ } => 16,
-            FileFault::PastEnd { at: _ } => 17,
+            FileFault::NoRecord { .. } => 13,
+            FileFault::UnknownMark { .. } => 14,
+            FileFault::BadLength { .. } => 16,
+            FileFault::PastEnd { .. } => 17,
             FileFault::Plate { fault } => fault.number(),
         }
     }
@@ -107,11 +108,35 @@ impl FileFault {
     {
         match self {
             FileFault::TooLong => 0,
-            FileFault::NoRecord { at } => at,
-            FileFault::UnknownMark { at } => at,
-            FileFault::BadLength { at } => at,
-            FileFault::PastEnd { at } => at,
+            FileFault::NoRecord { at }
+            | FileFault::UnknownMark { at }
+            | FileFault::BadLength { at }
+            | FileFault::PastEnd { at } => at,
             FileFault::Plate { fault } => fault.place(),
         }
+    }
+
+    // The line that the trellis refused, if it did.
+    fn refused_line(self) -> Option<LineFault>
+        ensures { result ≡ refused_line self }
+    {
+        match self {
+            FileFault::Plate {
+                fault: PlateFault::Trellis { refused },
+            } => Some(refused),
+            _ => None,
+        }
+    }
+}
+
+impl fmt::Display for FileFault {
+    ghost output = { λ fault. Some (fault_text fault) };
+
+    fn fmt<W: fmt::Write>(&self, f: &mut fmt::Formatter<W>) -> fmt::Result {
+        write!(f, "fault {} {}", self.number(), self.layer())?;
+        if let Some(refused) = self.refused_line() {
+            write!(f, " line {} pixel {}", refused.line, refused.fault.pixel())?;
+        }
+        write!(f, " record {}", self.place())
     }
 }

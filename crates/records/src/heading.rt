@@ -6,12 +6,10 @@ ghost use Rattle.records.specs.Headings.{heading};
 use crate::cutting::cut;
 use crate::display_kind::{AnyDisplay, CostKind, MachineKind};
 use crate::fault::{FileFault, PlateFault};
-use crate::letters::{colour_count, cost_of, machine_of};
+use crate::letters::colour_count;
 use crate::palette::{colours_are_right, display_of};
 use crate::record::{Record, Stage};
-
-// As wide as a plate's lines may be.
-const WIDEST: u16 = 640;
+use trellis::WIDEST;
 
 // What stands before the lines: the display, the cost kind, how many colours the palette has, the width, and the byte at which the lines begin.
 #[derive(Clone, Copy)]
@@ -47,9 +45,7 @@ pub fn read_heading(input: &[u8], limit: usize) -> Result<Heading, FileFault>
         unreachable()
     };
     if !colours_are_right(body) {
-        return Err(FileFault::Plate {
-            fault: PlateFault::OutOfRange { at: 8 },
-        });
+        return Err(PlateFault::OutOfRange { at: 8 }.into());
     }
     Ok(Heading {
         display: display_of(machine, body),
@@ -64,8 +60,11 @@ pub fn read_heading(input: &[u8], limit: usize) -> Result<Heading, FileFault>
 fn check_header(machine: u8, cost: u8, width: u16) -> Result<(MachineKind, CostKind), PlateFault>
     ensures { result ≡ checked_header machine cost width }
 {
-    match (machine_of(char::from(machine)), cost_of(char::from(cost))) {
-        (Some(machine), Some(cost)) if width >= 1 && width <= WIDEST => Ok((machine, cost)),
+    match (
+        MachineKind::try_from(char::from(machine)),
+        CostKind::try_from(char::from(cost)),
+    ) {
+        (Ok(machine), Ok(cost)) if (1..=WIDEST).contains(&width) => Ok((machine, cost)),
         _ => Err(PlateFault::OutOfRange { at: 0 }),
     }
 }

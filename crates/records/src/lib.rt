@@ -14,5 +14,6 @@ pub use cutting::cut;
 pub use display_kind::{AnyDisplay, CostKind, MachineKind};
 pub use fault::{FileFault, LineFault, PlateFault};
 pub use heading::{Heading, read_heading};
+pub use letters::UnknownLetter;
 pub use pins::{pin_at, pins_are_right};
-pub use record::{Mark, Record, Stage};
+pub use record::{Mark, Record, Stage, UnknownMark};

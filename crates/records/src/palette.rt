@@ -5,28 +5,24 @@ ghost use Rattle.records.specs.Records.{palette_right};
 
 use crate::display_kind::{AnyDisplay, MachineKind};
 use display::{Fill, HalfBrite, Ham};
+use std::array;
 
 // Each colour has at most twelve bits. A byte that is left over is no colour.
 pub(crate) fn colours_are_right(body: &[u8]) -> bool
     ensures { result ≡ palette_right body.now }
 {
-    for i in 0..body.len() / 2 {
-        if u16::from_le_bytes([body[2 * i], body[2 * i + 1]]) > 4095 {
-            return false;
-        }
-    }
-    true
+    let (colours, _) = body.as_chunks::<2>();
+    colours
+        .iter()
+        .all(|colour| u16::from_le_bytes(*colour) <= 4095)
 }
 
 fn palette_words<const N: usize>(body: &[u8]) -> [u16; N]
     requires { length body.now ≡ 2 * N }
     ensures { result ≡ words body.now }
 {
-    let mut colours = [0; N];
-    for (i, colour) in colours.iter_mut().enumerate() {
-        *colour = u16::from_le_bytes([body[2 * i], body[2 * i + 1]]);
-    }
-    colours
+    let (colours, _) = body.as_chunks::<2>();
+    array::from_fn(|i| u16::from_le_bytes(colours[i]))
 }
 
 pub(crate) fn display_of(kind: MachineKind, body: &[u8]) -> AnyDisplay

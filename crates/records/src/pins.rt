@@ -1,31 +1,32 @@
 // The pins of a PN body: a place in two bytes, and a code.
-ghost use Rattle.std.specs.Prelude.{◌≡◌};
+ghost use Rattle.std.specs.Prelude.{◌≡◌, slice_index};
+ghost use Rattle.records.specs.Letters.{number_of_bytes};
 ghost use Rattle.records.specs.Records.{pin_at, pins_of, pins_right};
+
+// The first two bytes of a pin.
+fn place_of(pin: &[u8; 3]) -> u16
+    ensures { result ≡ number_of_bytes (slice_index pin.now 0) (slice_index pin.now 1) }
+{
+    u16::from_le_bytes([pin[0], pin[1]])
+}
 
 // Places rise, and are below the width. Bytes that are left over say nothing.
 pub fn pins_are_right(width: u16, pins: &[u8]) -> bool
     ensures { result ≡ pins_right width pins.now }
 {
-    let mut least = 0;
-    for i in 0..pins.len() / 3 {
-        let place = u16::from_le_bytes([pins[3 * i], pins[3 * i + 1]]);
-        if place < least || place >= width {
-            return false;
-        }
-        // Does not pass the width.
-        least = place + 1;
-    }
-    true
+    let (whole, _) = pins.as_chunks::<3>();
+    whole.is_sorted_by(|before, pin| place_of(before) < place_of(pin))
+        && whole.iter().all(|pin| place_of(pin) < width)
 }
 
 // The code that a place is pinned to.
+// By a search from the front: the promise holds for pins in any order, and they are borrowed, so no map is made of them.
 pub fn pin_at(pins: &[u8], place: usize) -> Option<u8>
     ensures { result ≡ pin_at place (pins_of pins.now) }
 {
-    for i in 0..pins.len() / 3 {
-        if usize::from(u16::from_le_bytes([pins[3 * i], pins[3 * i + 1]])) == place {
-            return Some(pins[3 * i + 2]);
-        }
-    }
-    None
+    let (whole, _) = pins.as_chunks::<3>();
+    whole
+        .iter()
+        .find(|pin| usize::from(place_of(pin)) == place)
+        .map(|&[_, _, code]| code)
 }

@@ -1,9 +1,11 @@
 // The records of a plate file, as parts of the input.
-ghost use Rattle.std.specs.Prelude.{◌≡◌, is_some};
-ghost use Rattle.std.specs.Option.{unwrap_or};
+ghost use Rattle.std.specs.Prelude.{◌≡◌, cond, is_some, slice_index};
+ghost use Rattle.std.specs.Option.{ok_or, unwrap_or};
 ghost use Rattle.records.specs.Records.{asks, mark_of, next_stage};
 
-#[derive(Clone, Copy)]
+use crate::fault::PlateFault;
+
+#[derive(Clone, Copy, Debug, PartialEq, Eq)]
 pub enum Mark {
     Header,
     Palette,
@@ -23,7 +25,7 @@ pub enum Record<'a> {
 }
 
 // What the reader has had, and so what may come next.
-#[derive(Clone, Copy)]
+#[derive(Clone, Copy, Debug, PartialEq, Eq)]
 pub enum Stage {
     Header,
     Palette,
@@ -32,48 +34,42 @@ pub enum Stage {
     Over,
 }
 
-pub(crate) fn mark_of(a: u8, b: u8) -> Option<Mark>
-    ensures { result ≡ mark_of a b }
-{
-    match (a, b) {
-        (b'H', b'D') => Some(Mark::Header),
-        (b'P', b'L') => Some(Mark::Palette),
-        (b'P', b'N') => Some(Mark::Pins),
-        (b'L', b'N') => Some(Mark::Line),
-        (b'E', b'N') => Some(Mark::End),
-        _ => None,
+// Two bytes that mark no record.
+#[derive(Clone, Copy, Debug, PartialEq, Eq)]
+pub struct UnknownMark(pub [u8; 2]);
+
+impl TryFrom<[u8; 2]> for Mark {
+    type Error = UnknownMark;
+
+    ghost try_from_gives = { λ bytes r. r ≡ ok_or (mark_of (slice_index bytes 0) (slice_index bytes 1)) (record { 0 = bytes }) };
+
+    fn try_from(bytes: [u8; 2]) -> Result<Mark, UnknownMark> {
+        match &bytes {
+            b"HD" => Ok(Mark::Header),
+            b"PL" => Ok(Mark::Palette),
+            b"PN" => Ok(Mark::Pins),
+            b"LN" => Ok(Mark::Line),
+            b"EN" => Ok(Mark::End),
+            _ => Err(UnknownMark(bytes)),
+        }
     }
 }
 
 impl Stage {
-    // Goes on past a record with this mark, if one may stand here.
-    pub(crate) fn take(&mut self, mark: Mark) -> bool
-        ensures value { result ≡ is_some (next_stage self.old mark) }
+    // Goes on past the record with this mark that begins at byte `at`, if one may stand here.
+    pub(crate) fn take(&mut self, mark: Mark, at: usize) -> Result<(), PlateFault>
+        ensures value { result ≡ cond (is_some (next_stage self.old mark)) (Ok tt) (Err (PlateFault.Misplaced at)) }
         ensures after { self.new ≡ unwrap_or (next_stage self.old mark) self.old }
     {
-        match (*self, mark) {
-            (Stage::Header, Mark::Header) => {
-                *self = Stage::Palette;
-                true
-            }
-            (Stage::Palette, Mark::Palette) => {
-                *self = Stage::Lines;
-                true
-            }
-            (Stage::Lines, Mark::Pins) => {
-                *self = Stage::Pinned;
-                true
-            }
-            (Stage::Lines | Stage::Pinned, Mark::Line) => {
-                *self = Stage::Lines;
-                true
-            }
-            (Stage::Lines, Mark::End) => {
-                *self = Stage::Over;
-                true
-            }
-            _ => false,
-        }
+        *self = match (*self, mark) {
+            (Stage::Header, Mark::Header) => Stage::Palette,
+            (Stage::Palette, Mark::Palette) => Stage::Lines,
+            (Stage::Lines, Mark::Pins) => Stage::Pinned,
+            (Stage::Lines | Stage::Pinned, Mark::Line) => Stage::Lines,
+            (Stage::Lines, Mark::End) => Stage::Over,
+            _ => return Err(PlateFault::Misplaced { at }),
+        };
+        Ok(())
     }
 }
 
@@ -85,7 +81,7 @@ pub(crate) fn body_length_is_right(colours: usize, width: u16, mark: Mark, lengt
         Mark::Header => length == 4,
         Mark::Palette => length % 2 == 0 && length / 2 == colours,
         Mark::Pins => length % 3 == 0 && length >= 3,
-        Mark::Line => length == 3 * width as usize,
+        Mark::Line => length == 3 * usize::from(width),
         Mark::End => length == 0,
     }
 }

@@ -1,11 +1,11 @@
-use Rattle.std.proofs.Common.{length, sym, ◌∙◌, subst, rules}
+use Rattle.std.proofs.Common.{length, Err, sym, ap, ◌∙◌, subst, rules}
 use Rattle.std.specs.List.{between}
 use Rattle.std.proofs.lemmas.List.{take_rest}
 use Rattle.std.proofs.lemmas.Result.{err_from_is_err_and}
 use Rattle.records.specs.declared.record.Record.TheVariants.{Palette as palette}
 use Rattle.records.specs.declared.record.Stage.TheVariants.{Header as at_header}
 use Rattle.records.specs.Cutting.{Taken}
-use Rattle.records.proofs.Heads.{HeaderCut, HeaderRead, body_size, colours_out, header_out, heads, palette_out, within}
+use Rattle.records.proofs.Heads.{HeaderCut, HeaderRead, body_size, colours_out, heads, palette_out, within}
 use Rattle.records.proofs.heading.read_heading.Goals as goal
 use Rattle.records.proofs.heading.read_heading.Goals.{After-colour_count-colours, In-Header, In-Palette}
 
@@ -14,11 +14,6 @@ header_cut c = record {
   size = c.if-input-limit.false;
   taken = subst (λ piece. Taken 0 0 at_header 0 c.args.input.now piece c.cut.new.stage) c.in-Header.is c.in_ok-machine.ensures;
 }
-
-pub returns-in_err-machine-2 : goal.returns-in_err-machine-2
-returns-in_err-machine-2 c =
-    let p = err_from_is_err_and c.from_residual-in_err-machine-2.result c.from_residual-in_err-machine-2.ensures.1 in
-    rw (p.1, p.2) (header_out (header_cut (goal.at.returns-in_err-machine-2 c).In-Header) _ c.in_err-machine-2.ensures)
 
 header_read : (c : After-colour_count-colours) →
     HeaderRead c.args.limit c.args.input.now c.in_ok-machine-2.machine c.in_ok-machine-2.cost c.colour_count-colours.result c.in-Header.width c.cut.new.stage
@@ -49,7 +44,8 @@ palette_cut c =
 
 pub returns-then-not-colours_are_right : goal.returns-then-not-colours_are_right
 returns-then-not-colours_are_right c =
-    colours_out (header_read (goal.at.returns-then-not-colours_are_right c).After-colour_count-colours) (take_rest c.args.input.now 8) (palette_cut (goal.at.returns-then-not-colours_are_right c).In-Palette)
+    ap Err c.into.ensures
+    ∙ colours_out (header_read (goal.at.returns-then-not-colours_are_right c).After-colour_count-colours) (take_rest c.args.input.now 8) (palette_cut (goal.at.returns-then-not-colours_are_right c).In-Palette)
     (sym c.if-not-colours_are_right.true ∙ c.colours_are_right.ensures)
 
 pub display_of-requires : goal.display_of-requires

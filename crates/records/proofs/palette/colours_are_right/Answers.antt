@@ -1,15 +1,11 @@
-use Rattle.std.proofs.Common.{sym, ap, ◌∙◌, arith}
-use Rattle.records.specs.Records.{all_colours}
-use Rattle.records.proofs.Wording.{colours_more, colours_stop, words_end}
+use Rattle.std.proofs.Common.{nat_le, ◌∙◌, rules}
+use borrow.Author.Tests.{tests}
+use Rattle.std.proofs.lemmas.Iterator.{YieldsList-from_slice}
+use Rattle.std.proofs.lemmas.Iterator.Search.{all_from_yields_List}
+use Rattle.records.proofs.Wording.{word_of, colours_each}
 use Rattle.records.proofs.palette.colours_are_right.Goals as goal
 
-pub returns-then-from_le_bytes-gt4095 : goal.returns-then-from_le_bytes-gt4095
-returns-then-from_le_bytes-gt4095 c =
-    sym (c.loop-i.invariant ∙ colours_stop c.args.body.now _ c.from_le_bytes.result (omega arith) (omega arith) (omega arith))
-
-pub loop-i-preserved : goal.loop-i-preserved
-loop-i-preserved c =
-    c.loop-i.invariant ∙ colours_more c.args.body.now _ c.from_le_bytes.result (omega arith) (omega arith) (omega arith)
-
 pub returns : goal.returns
-returns c = sym (c.loop-i.invariant ∙ ap all_colours (words_end c.args.body.now c.loop-i.i (omega arith)))
+returns c =
+    all_from_yields_List (λ chunk. nat_le (word_of chunk) 4095) _ _ _ c.all.ensures.ran (YieldsList-from_slice c.as_chunks.result.0.now (cc)) (λ x b q k. search (rules, tests))
+    ∙ colours_each c.args.body.now c.as_chunks.result.0.now c.as_chunks.ensures.front
