@@ -58,7 +58,7 @@ split_more xs i x ys e =
     let d = drop_more xs i x h in
     (cc, cc)
 
-and_then_assoc : (a b c : Option Fault) → and_then a (and_then b c) ≡ and_then (and_then a b) c
+pub and_then_assoc : (a b c : Option Fault) → and_then a (and_then b c) ≡ and_then (and_then a b) c
 and_then_assoc None b c = refl
 and_then_assoc (Some fault) b c = refl
 

@@ -4,28 +4,28 @@ use mathlib.Core.List.{reverse-reverse}
 use Rattle.std.proofs.lemmas.List.{length-reverse, take_at}
 use Rattle.cost.specs.Kind.{Kind, Lawful}
 use Rattle.display.specs.Machine.{Meaning, Lawful as Sound}
-use Rattle.lines.specs.Checks.{answer, left, with_front}
+use Rattle.lines.specs.Checks.{and_then, answer, left, with_front}
 use Rattle.lines.specs.declared.fault.Fault.{Fault}
-use Rattle.run.specs.Agreement.{OpenRight}
 use Rattle.run.specs.Promise.{Reports}
 use Rattle.run.specs.Rivals.{Best}
 use Rattle.run.proofs.Bridge.{reports_least}
 use Rattle.run.proofs.Opened.{has_pixels, close_check_is, closed_best}
 use Rattle.run.proofs.Steps.{taken_back, refused_back}
-use Rattle.trellis.specs.Calls.{start_check, ready_check, pixels_of, picked_state, close_check, line_cost, with_line, closed as closing, closed_codes, closed_preview}
+use Rattle.trellis.specs.Calls.{start_check, ready_check, short_buffers, pixels_of, picked_state, close_check, line_cost, with_line, closed as closing, closed_codes, closed_preview}
 use Rattle.trellis.specs.Cells.{codes_back, colours_back}
 use Rattle.trellis.specs.declared.plate.OpenLine.{OpenLine}
 use Rattle.trellis.specs.declared.plate.Plate.{Plate}
 use Rattle.trellis.specs.declared.plate.Report.{Report}
 use Rattle.trellis.proofs.Back.{length_back}
-use Rattle.trellis.proofs.Checking.{kept, renewed, later_says}
+use Rattle.trellis.proofs.Checking.{kept, renewed, first_stops, later_says}
 use Rattle.viterbi.specs.declared.Cell.{Cell}
 use Rattle.one_line.specs.Drawing.{blocked, picked_line}
+use Rattle.one_line.specs.Filled.{Full, FilledRight}
 use Rattle.one_line.specs.Lines.{wanted_of, figures_of, line_check, front_line, Draws}
-use Rattle.one_line.proofs.Filling.{ready_is}
+use Rattle.one_line.proofs.Filling.{ready_is, and_then_assoc}
 use Rattle.one_line.proofs.Passing.{best_is_picked}
 use Rattle.one_line.proofs.Starting.{start_passed}
-use Rattle.one_line.proofs.Targets.{count_wanted}
+use Rattle.one_line.proofs.Pixels.{none_pinned}
 
 module _ {C : Type 0} (m : Meaning) (k : Kind C) (bytes codes preview : List ℕ) where
   -- A refusal leaves the buffers.
@@ -37,21 +37,45 @@ module _ {C : Type 0} (m : Meaning) (k : Kind C) (bytes codes preview : List ℕ
     best = tt;
   }
 
-  module _ (sound : Sound m) (law : Lawful k) (count : ℕ) (cells : List (Cell C)) (line : OpenLine C) (as_many : length cells ≡ count)
-      (starts : start_check m count 0 (length bytes / 3) ≡ None) (passes : blocked m k [] (wanted_of bytes) ≡ None)
-      (right : OpenRight m k (length bytes / 3) (reverse (wanted_of bytes)) line cells) where
+  -- A line that was not filled is refused by the checks before close.
+  pub fill_refuses : (count : ℕ) (start back : Plate C) (fault : Fault) (cells : List (Cell C)) → start ≡ record { lines = 0; total = k.zero } →
+      FilledRight m k count start [] bytes (Err (back, fault)) cells → Draws m k count bytes codes preview (Err fault) codes preview
+  fill_refuses count start back fault cells new filled =
+      let n = length bytes / 3 in
+      let short = short_buffers (length codes) (length preview) n in
+      let check : and_then (start_check m count 0 n) (blocked m k [] (wanted_of bytes)) ≡ Some fault =
+      ap (λ p. and_then (start_check m count p.lines n) (blocked m k [] (wanted_of bytes))) (sym new)
+      ∙ ap (λ ps. and_then (start_check m count start.lines n) (blocked m k [] ps)) (sym (none_pinned bytes)) ∙ filled.1
+      in
+      refused count fault
+      (and_then_assoc (start_check m count 0 n) (blocked m k [] (wanted_of bytes)) short
+      ∙ first_stops (and_then (start_check m count 0 n) (blocked m k [] (wanted_of bytes))) short fault check)
+
+  module _ (sound : Sound m) (law : Lawful k) (count : ℕ) (start : Plate C) (new : start ≡ record { lines = 0; total = k.zero }) (cells : List (Cell C)) (line : OpenLine C)
+      (as_many : length cells ≡ count) (filled : FilledRight m k count start [] bytes (Ok line) cells) where
+    rests : line.plate ≡ record { lines = 0; total = k.zero }
+    rests = filled.0 ∙ new
+
+    full : Full m k (length bytes / 3) (wanted_of bytes) line cells
+    full = subst (λ pixels. Full m k (length bytes / 3) pixels line cells) (none_pinned bytes) filled.1
+
+    starts : start_check m count 0 (length bytes / 3) ≡ None
+    starts =
+        ap (λ c. start_check m c 0 (length bytes / 3)) (sym as_many)
+        ∙ ap (λ p. start_check m (length cells) p.lines (length bytes / 3)) (sym rests) ∙ full.starts
+
     long : length (reverse (wanted_of bytes)) ≡ length bytes / 3
-    long = length-reverse (wanted_of bytes) ∙ count_wanted bytes
+    long = length-reverse (wanted_of bytes) ∙ full.long
 
     -- Close of a line that has all its pixels finds what its last check finds.
     close_is : close_check m k line cells codes preview ≡ line_check m k count bytes codes preview
     close_is =
         let n = length bytes / 3 in
         let passed = start_passed m count 0 n starts in
-        close_check_is m k n (reverse (wanted_of bytes)) line cells right sound law codes preview
+        close_check_is m k n (reverse (wanted_of bytes)) line cells full.drawn sound law codes preview
         ∙ ap (ready_check m (length cells) n (length codes) (length preview)) long
         ∙ ready_is m (length cells) n (length codes) (length preview) (subst (λ c. n * m.states + m.states ≤ c) (sym as_many) passed.2) passed.1
-        ∙ sym (later_says (start_check m count 0 n) _ _ starts (later_says (blocked m k [] (wanted_of bytes)) _ _ passes refl))
+        ∙ sym (later_says (start_check m count 0 n) _ _ starts (later_says (blocked m k [] (wanted_of bytes)) _ _ full.passes refl))
 
     module _ (cs ps : List ℕ) (cs_are : cs ≡ closed_codes m k line cells codes preview) (ps_are : ps ≡ closed_preview m k line cells codes preview) where
       pub close_refuses : (back : OpenLine C) (fault : Fault) → ◌≡◌ {A = Result (Plate C × C) (OpenLine C × Fault)} (Err (back, fault)) (closing m k line cells codes preview) → Draws m k count bytes codes preview (Err fault) cs ps
@@ -75,7 +99,7 @@ module _ {C : Type 0} (m : Meaning) (k : Kind C) (bytes codes preview : List ℕ
         closes : Best m k (front_line m k bytes cs ps cost)
         closes =
             subst (λ ws. Best m k (record { pixels = ws; codes = take (length bytes / 3) cs; preview = take (length bytes / 3) ps; cost = cost })) (reverse-reverse (wanted_of bytes))
-            (closed_best m k (length bytes / 3) (reverse (wanted_of bytes)) line cells right sound law codes preview check (take (length bytes / 3) cs) (take (length bytes / 3) ps) cost
+            (closed_best m k (length bytes / 3) (reverse (wanted_of bytes)) line cells full.drawn sound law codes preview check (take (length bytes / 3) cs) (take (length bytes / 3) ps) cost
             (front cs _ cs_are) (front ps _ ps_are) (ap (λ y. y.1) comes))
           where
             front : (xs ys : List ℕ) → xs ≡ ys → take (length bytes / 3) xs ≡ take (length (reverse (wanted_of bytes))) ys
@@ -92,21 +116,21 @@ module _ {C : Type 0} (m : Meaning) (k : Kind C) (bytes codes preview : List ℕ
         behind back sized xs way buffer are front =
             let ys = back (pixels_of line) (picked_state m k (pixels_of line) cells) in
             let written : xs ≡ with_front ys buffer = are ∙ sym (renewed (close_check m k line cells codes preview) _ buffer check) in
-            let many : length ys ≡ length bytes / 3 = sized _ _ ∙ has_pixels m k (length bytes / 3) (reverse (wanted_of bytes)) line cells right ∙ long in
+            let many : length ys ≡ length bytes / 3 = sized _ _ ∙ has_pixels m k (length bytes / 3) (reverse (wanted_of bytes)) line cells full.drawn ∙ long in
             let ys_are : ys ≡ way = sym (take_at ys (drop (length ys) buffer) (length bytes / 3) many) ∙ sym (ap (take (length bytes / 3)) written) ∙ front in
             written ∙ ap (λ zs. with_front zs buffer) ys_are ∙ renewed (line_check m k count bytes codes preview) _ buffer (sym close_is ∙ check)
 
-        module _ (rests : line.plate ≡ record { lines = 0; total = k.zero }) (report : Report C) (reported : report ≡ record { lines = plate.lines; total = plate.total }) where
+        module _ (report : Report C) (reported : report ≡ record { lines = plate.lines; total = plate.total }) where
           report_is : report ≡ record { lines = 1; total = k.join k.zero cost }
           report_is =
               reported
               ∙ ap (λ q. record { lines = q.lines; total = q.total })
               (ap (λ y. y.0) comes ∙ ap (with_line k line.plate) (sym (ap (λ y. y.1) comes)) ∙ ap (λ q. with_line k q cost) rests)
 
-          pub close_says : Draws m k count bytes codes preview (Ok (record { cost = cost; lines = report.lines; total = report.total })) cs ps
+          pub close_says : Draws m k count bytes codes preview (Ok (record { cost = cost; report = report })) cs ps
           close_says = record {
             value =
-                ap (λ r. Ok (record { cost = cost; lines = r.lines; total = r.total })) report_is
+                ap (λ r. Ok (record { cost = cost; report = r })) report_is
                 ∙ ap (λ l. Ok (figures_of m k l)) is_picked
                 ∙ ap (λ ch. answer ch (figures_of m k (picked_line m k (wanted_of bytes)))) (sym (sym close_is ∙ check));
             coded = behind (codes_back m k cells) (length_back m k cells (codes_back m k cells) (λ _ cell. cell.code) (λ _. refl) (λ _ _. refl)) cs _ codes cs_are (ap (λ l. l.codes) is_picked);

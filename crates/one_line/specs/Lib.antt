@@ -1,2 +1,4 @@
 pub mod Drawing
+pub mod Pixels
+pub mod Filled
 pub mod Lines

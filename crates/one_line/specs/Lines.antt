@@ -19,7 +19,7 @@ wanted_of bytes = map (λ target. record { target = target; pin = None }) (targe
 module _ {C : Type 0} (m : Meaning) (k : Kind C) where
   -- a line's cost, and what a plate with this line alone reports
   abbrev pub figures_of : ClosedLine C → Figures C
-  figures_of line = record { cost = line.cost; lines = 1; total = k.join k.zero line.cost }
+  figures_of line = record { cost = line.cost; report = record { lines = 1; total = k.join k.zero line.cost } }
 
   module _ (cells : ℕ) (bytes codes preview : List ℕ) where
     -- the checks in order: those of start, those of the pixels, and of close the one on the buffers
@@ -48,7 +48,7 @@ module _ {C : Type 0} (m : Meaning) (k : Kind C) where
   -- that line is the best of its rivals, and the report is that of a plate with this line alone
   pub record BestFront (bytes codes preview : List ℕ) (figures : Figures C) : Type 0 where
     pub best : Best m k (front_line bytes codes preview figures.cost)
-    pub reports : Reports m k (front_line bytes codes preview figures.cost ∷ []) figures.lines figures.total
+    pub reports : Reports m k (front_line bytes codes preview figures.cost ∷ []) figures.report.lines figures.report.total
 
   -- what drawing a line answers, and what it leaves in the buffers
   pub record Draws (cells : ℕ) (bytes codes preview : List ℕ) (result : Result (Figures C) Fault) (codes' preview' : List ℕ) : Type 0 where
