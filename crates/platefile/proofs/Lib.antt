@@ -1,7 +1,6 @@
-pub mod Pixels
-pub mod Starting
-pub mod Spaced
+pub mod Closing
 pub mod Outputs
 pub mod Nexts
 pub mod Readers
+pub mod Displays
 pub mod Followups

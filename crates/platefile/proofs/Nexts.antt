@@ -1,17 +1,17 @@
 -- What comes out next, by the record that stands there.
-use Rattle.std.proofs.Common.{◌≡◌, ℕ, suc, ◌+◌, Bool, true, false, cond, eqb, List, [], ◌∷◌, length, Some, None, Ok, Err, Option, unwrap_or, ap, ◌∙◌, arith}
+use Rattle.std.proofs.Common.{◌≡◌, ℕ, suc, ◌+◌, true, cond, List, [], ◌∷◌, length, Some, None, Ok, Err, Option, unwrap_or, ap, ◌∙◌, arith}
 use Rattle.cost.specs.Kind.{Kind}
 use Rattle.display.specs.Machine.{Meaning}
 use Rattle.lines.specs.declared.fault.Fault.{Fault}
 use Rattle.run.specs.Account.{ClosedLine}
 use Rattle.records.specs.declared.fault.FileFault.{FileFault}
 use Rattle.records.specs.declared.fault.FileFault.TheVariants.{Plate}
-use Rattle.records.specs.declared.fault.PlateFault.TheVariants.{Misplaced, OutOfRange, Trellis}
-use Rattle.records.specs.declared.record.Mark.TheVariants.{Pins, Line, End}
+use Rattle.records.specs.declared.fault.PlateFault.TheVariants.{OutOfRange, Trellis}
+use Rattle.records.specs.declared.record.Mark.TheVariants.{Pins, Line}
 use Rattle.records.specs.Records.{mark_at, body_at, length_at, after_record, record_check, pins_right}
-use Rattle.platefile.specs.Pixels.{pixels_of_line}
+use Rattle.one_line.specs.Pixels.{pixels_of_line}
 use Rattle.one_line.specs.Drawing.{drawn_line}
-use Rattle.platefile.specs.Files.{Output, line_out, total_out, fault_out, stage_after, on_drawn, on_mark, on_record, outputs_from, outputs}
+use Rattle.platefile.specs.Files.{Output, line_out, fault_out, stage_after, on_drawn, on_mark, on_record, outputs_from, outputs}
 use Rattle.platefile.proofs.Outputs.{shorter, enough}
 
 module _ {C : Type 0} (m : Meaning) (k : Kind C) (cells colours width : ℕ) (at : ℕ) (rest : List ℕ) (lines : ℕ) (total : C) where
@@ -48,14 +48,3 @@ module _ {C : Type 0} (m : Meaning) (k : Kind C) (cells colours width : ℕ) (at
         on_marked ∙ ap (on_mark m k cells colours width (outputs_from m k cells colours width (length rest)) at rest pins lines total) e
         ∙ ap (λ b. cond b (outputs_from m k cells colours width (length rest) (at + (4 + length_at rest)) (after_record rest) (Some (body_at rest)) lines total) (fault_out (Plate (OutOfRange at)) ∷ [])) right
         ∙ enough m k cells colours width (length rest) (suc (length (after_record rest))) _ (after_record rest) (Some (body_at rest)) lines total less (omega arith)
-
-    pub pins_refused : mark_at rest ≡ Some Pins → pins_right width (body_at rest) ≡ false → from_here pins ≡ fault_out (Plate (OutOfRange at)) ∷ []
-    pins_refused e wrong =
-        on_marked ∙ ap (on_mark m k cells colours width (outputs_from m k cells colours width (length rest)) at rest pins lines total) e
-        ∙ ap (λ b. cond b (outputs_from m k cells colours width (length rest) (at + (4 + length_at rest)) (after_record rest) (Some (body_at rest)) lines total) (fault_out (Plate (OutOfRange at)) ∷ [])) wrong
-
-    pub end_here : mark_at rest ≡ Some End → (b : Bool) → eqb (length (after_record rest)) 0 ≡ b →
-        from_here pins ≡ cond b (total_out lines total ∷ []) (fault_out (Plate (Misplaced (at + 4))) ∷ [])
-    end_here e b last =
-        on_marked ∙ ap (on_mark m k cells colours width (outputs_from m k cells colours width (length rest)) at rest pins lines total) e
-        ∙ ap (λ b. cond b (total_out lines total ∷ []) (fault_out (Plate (Misplaced (at + 4))) ∷ [])) last

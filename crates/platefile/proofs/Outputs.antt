@@ -15,26 +15,22 @@ use Rattle.records.specs.declared.record.Mark.{Mark}
 use Rattle.records.specs.declared.record.Mark.TheVariants.{Header, Palette, Pins, Line, End}
 use Rattle.records.specs.declared.record.Stage.{Stage}
 use Rattle.records.specs.Records.{mark_at, body_at, length_at, after_record, record_check, mark_check, pins_right}
-use Rattle.platefile.specs.Pixels.{pixels_of_line}
+use Rattle.one_line.specs.Pixels.{pixels_of_line}
 use Rattle.one_line.specs.Drawing.{drawn_line}
 use Rattle.platefile.specs.Files.{line_out, total_out, fault_out, stage_after, Going, on_drawn, on_mark, on_record, outputs_from, Kept}
 
--- a record that passes its checks leaves less to read
-pub shorter : (colours width : ℕ) (stage : Stage) (at : ℕ) (rest : List ℕ) → record_check colours width stage at rest ≡ None → length (after_record rest) < length rest
-shorter colours width stage at rest e =
-    let long = some_left (ltb (length rest) 4) refl e in simp length-drop (omega arith)
+-- a record that passes 13 to 17: four bytes at least are there, and its mark passes 14 to 17
+good : (colours width : ℕ) (stage : Stage) (at : ℕ) (rest : List ℕ) → record_check colours width stage at rest ≡ None → (4 ≤ length rest) × (mark_check colours width stage at rest (mark_at rest) ≡ None)
+good colours width stage at rest = by_length (ltb (length rest) 4) refl
   where
-    some_left : (b : Bool) → ltb (length rest) 4 ≡ b → cond b (Some (NoRecord at)) (mark_check colours width stage at rest (mark_at rest)) ≡ None → 4 ≤ length rest
-    some_left true f h = absurd (true≢false (cc))
-    some_left false f h = ltb-false (length rest) 4 f
+    by_length : (b : Bool) → ltb (length rest) 4 ≡ b → cond b (Some (NoRecord at)) (mark_check colours width stage at rest (mark_at rest)) ≡ None →
+        (4 ≤ length rest) × (mark_check colours width stage at rest (mark_at rest) ≡ None)
+    by_length true f h = absurd (true≢false (cc))
+    by_length false f h = (ltb-false (length rest) 4 f, h)
 
--- and its mark passes 14 to 17
-passes : (colours width : ℕ) (stage : Stage) (at : ℕ) (rest : List ℕ) → record_check colours width stage at rest ≡ None → mark_check colours width stage at rest (mark_at rest) ≡ None
-passes colours width stage at rest = by_length (ltb (length rest) 4)
-  where
-    by_length : (b : Bool) → cond b (Some (NoRecord at)) (mark_check colours width stage at rest (mark_at rest)) ≡ None → mark_check colours width stage at rest (mark_at rest) ≡ None
-    by_length true h = absurd (true≢false (cc))
-    by_length false h = h
+-- so it leaves less to read
+pub shorter : (colours width : ℕ) (stage : Stage) (at : ℕ) (rest : List ℕ) → record_check colours width stage at rest ≡ None → length (after_record rest) < length rest
+shorter colours width stage at rest e = let long = (good colours width stage at rest e).0 in simp length-drop (omega arith)
 
 none_or : {A : Type 0} (o : Option A) → ((x : A) × (o ≡ Some x)) ⊎ (o ≡ None)
 none_or None = inr refl
@@ -122,5 +118,5 @@ module _ {C : Type 0} (m : Meaning) (k : Kind C) (cells colours width : ℕ) whe
         (λ e. subst Here (sym e)
         (let less = shorter colours width (stage_after pins) at rest e in
         kept_mark (outputs_from m k cells colours width s) at rest closed best
-        (λ i p more all. kept_from s i (after_record rest) p more (omega arith) all) pins (mark_at rest) (passes colours width (stage_after pins) at rest e)))
+        (λ i p more all. kept_from s i (after_record rest) p more (omega arith) all) pins (mark_at rest) (good colours width (stage_after pins) at rest e).1))
         (none_or (record_check colours width (stage_after pins) at rest))

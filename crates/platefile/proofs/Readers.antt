@@ -1,8 +1,7 @@
 -- The records of a file's lines, as cut gives them, and what comes out of them.
-use Rattle.std.proofs.Common.{◌≡◌, ℕ, suc, ◌+◌, ◌-◌, ◌*◌, ◌≤◌, true, cond, eqb, List, [], ◌∷◌, length, drop, Some, None, Err, Option, unwrap_or, sym, refl, ap, ◌∙◌, subst, arith, length-drop, Bor}
+use Rattle.std.proofs.Common.{◌≡◌, ℕ, suc, ◌+◌, ◌*◌, ◌≤◌, true, List, [], ◌∷◌, length, drop, Some, None, Err, Option, unwrap_or, sym, refl, ap, ◌∙◌, subst, arith, length-drop, Bor}
 use Rattle.std.proofs.lemmas.List.{drop-drop, length-take-le}
 use Rattle.std.proofs.lemmas.Bool.{eqb-true}
-use Rattle.std.proofs.lemmas.Bool.Decides.{nat_tests}
 use Rattle.cost.specs.Kind.{Kind}
 use Rattle.display.specs.Machine.{Meaning}
 use Rattle.lines.specs.declared.fault.Fault.{Fault}
@@ -12,24 +11,16 @@ use Rattle.records.specs.declared.fault.FileFault.TheVariants.{Plate}
 use Rattle.records.specs.declared.fault.PlateFault.TheVariants.{Trellis}
 use Rattle.records.specs.declared.record.Mark.{Mark}
 use Rattle.records.specs.declared.record.Mark.TheVariants.{Header, Palette, Pins, Line, End}
-use Rattle.records.specs.declared.record.Record.TheVariants.{Pins as pins, Line as line, End as end}
+use Rattle.records.specs.declared.record.Record.TheVariants.{Pins as pins}
 use Rattle.records.specs.declared.record.Stage.{Stage}
 use Rattle.records.specs.Records.{RecordIs, asks, mark_at, body_at, length_at, after_record, record_check, pins_right}
-use Rattle.platefile.specs.Pixels.{pixels_of_line}
+use Rattle.one_line.specs.Pixels.{pixels_of_line}
 use Rattle.records.specs.Cutting.{Taken}
 use Rattle.one_line.specs.Drawing.{drawn_line}
 use Rattle.platefile.specs.Drawns.{Draws}
-use Rattle.platefile.specs.Files.{Output, line_out, total_out, fault_out, stage_after, outputs_from, outputs}
-use Rattle.platefile.specs.Reading.{misplaced_at}
+use Rattle.platefile.specs.Files.{Output, line_out, fault_out, stage_after, outputs_from, outputs}
 use Rattle.records.proofs.Heads.{passes}
-use Rattle.platefile.proofs.Nexts.{line_next, line_refused, pins_next, end_here}
-
-is_line : (mark : Mark) (body : List ℕ) (targets : Bor (List ℕ)) → RecordIs mark body (line targets) → (mark ≡ Line) × (body ≡ targets.now)
-is_line Header body targets h = absurd h
-is_line Palette body targets h = absurd h
-is_line Pins body targets h = absurd h
-is_line Line body targets h = (refl, sym h)
-is_line End body targets h = absurd h
+use Rattle.platefile.proofs.Nexts.{line_next, line_refused, pins_next}
 
 is_pins : (mark : Mark) (body : List ℕ) (bytes : Bor (List ℕ)) → RecordIs mark body (pins bytes) → (mark ≡ Pins) × (body ≡ bytes.now)
 is_pins Header body bytes h = absurd h
@@ -37,13 +28,6 @@ is_pins Palette body bytes h = absurd h
 is_pins Pins body bytes h = (refl, sym h)
 is_pins Line body bytes h = absurd h
 is_pins End body bytes h = absurd h
-
-is_end : (mark : Mark) (body : List ℕ) → RecordIs mark body end → mark ≡ End
-is_end Header body h = absurd h
-is_end Palette body h = absurd h
-is_end Pins body h = absurd h
-is_end Line body h = absurd h
-is_end End body h = refl
 
 -- a record of this mark and body stands at byte `at` of the input, and passes 13 to 17
 pub record Stands (colours width : ℕ) (stage : Stage) (at : ℕ) (input : List ℕ) (mark : Mark) (body : List ℕ) : Type 0 where
@@ -75,27 +59,15 @@ module _ (colours width : ℕ) (stage after : Stage) (at : ℕ) (input : List �
         after = drop-drop (4 + length_at rest) at input ∙ ap (λ i. drop (at + (4 + i)) input) same;
       }
 
-  pub line_stands : (targets : Bor (List ℕ)) → Taken colours width stage at (drop at input) (line targets) after → Stands colours width stage at input Line targets.now
-  line_stands targets t =
-      let r = is_line t.mark (body_at (drop at input)) targets t.is in
-      stands Line targets.now t.passed (t.marked ∙ ap Some r.0) r.1
-
   pub pins_stand : (bytes : Bor (List ℕ)) → Taken colours width stage at (drop at input) (pins bytes) after → Stands colours width stage at input Pins bytes.now
   pins_stand bytes t =
       let r = is_pins t.mark (body_at (drop at input)) bytes t.is in
       stands Pins bytes.now t.passed (t.marked ∙ ap Some r.0) r.1
 
-  pub end_stands : Taken colours width stage at (drop at input) end after → Stands colours width stage at input End (body_at (drop at input))
-  end_stands t = stands End (body_at (drop at input)) t.passed (t.marked ∙ ap Some (is_end t.mark (body_at (drop at input)) t.is)) refl
-
 -- the same of an LN whose targets are at hand
 pub line_here : (colours width : ℕ) (stage : Stage) (at : ℕ) (input targets : List ℕ) → record_check colours width stage at (drop at input) ≡ None → mark_at (drop at input) ≡ Some Line →
     body_at (drop at input) ≡ targets → Stands colours width stage at input Line targets
 line_here colours width stage at input targets good marked is = stands colours width stage stage at input Line targets good marked is
-
--- an EN takes four bytes
-pub end_fits : (colours width : ℕ) (stage : Stage) (at : ℕ) (input body : List ℕ) → Stands colours width stage at input End body → at + 4 ≤ length input
-end_fits colours width stage at input body s = omega (arith, s.fits)
 
 -- an LN has three bytes for each pixel
 pub three_each : (colours width : ℕ) (stage : Stage) (at : ℕ) (input body : List ℕ) → Stands colours width stage at input Line body → length body ≡ 3 * width
@@ -142,15 +114,3 @@ module _ {C : Type 0} (m : Meaning) (k : Kind C) (cells colours width : ℕ) (at
       ∙ ap (λ r. From (length r) (at + (4 + length_at (drop at input))) r (body_at (drop at input))) s.after
       ∙ ap (λ n. From (length (drop (at + (4 + length bytes)) input)) (at + (4 + n)) (drop (at + (4 + length bytes)) input) (body_at (drop at input))) s.long
       ∙ ap (From (length (drop (at + (4 + length bytes)) input)) (at + (4 + length bytes)) (drop (at + (4 + length bytes)) input)) s.is
-
-  pub end_out : Stands colours width (stage_after None) at input End (body_at (drop at input)) →
-      outputs m k cells colours width at (drop at input) plate.lines plate.total ≡
-      cond (eqb (length (drop at input)) 4) (total_out plate.lines plate.total ∷ []) (fault_out (misplaced_at (at + 4)) ∷ [])
-  end_out s =
-      end_here m k cells colours width at (drop at input) plate.lines plate.total None s.good s.marked _
-      (same_test (length_at (drop at input)) (length (after_record (drop at input))) (length (drop at input)) (s.long ∙ eqb-true _ _ s.asked)
-      (length-drop (4 + length_at (drop at input)) (drop at input))
-      (passes colours width (stage_after None) at (drop at input) End s.good s.marked).1)
-    where
-      same_test : (n a b : ℕ) → n ≡ 0 → a ≡ b - (4 + n) → 4 + n ≤ b → eqb a 0 ≡ eqb b 4
-      same_test n a b z e f = grind (arith, nat_tests)

@@ -1,26 +1,16 @@
 -- What drawing a line comes to.
-use Rattle.std.specs.Prelude.{◌≡◌, ℕ, ◌+◌, List, [], reverse, length, None, Ok, Err, vec_items}
+use Rattle.std.specs.Prelude.{◌≡◌, ℕ, ◌+◌, List, Ok, Err, vec_items, Result}
 use Rattle.cost.specs.Kind.{Kind}
 use Rattle.display.specs.Machine.{Meaning}
 use Rattle.run.specs.Account.{Wanted, ClosedLine}
-use Rattle.run.specs.Agreement.{OpenRight}
 use Rattle.run.specs.Rivals.{Best}
-use Rattle.trellis.specs.Calls.{start_check}
-use Rattle.trellis.specs.declared.plate.OpenLine.{OpenLine}
 use Rattle.trellis.specs.declared.plate.Plate.{Plate}
-use Rattle.viterbi.specs.declared.Cell.{Cell}
-use Rattle.platefile.specs.declared.drawing.Drawn.{Drawn}
-use Rattle.platefile.specs.declared.drawing.Drawn.TheVariants.{Line, Refused, NoMemory}
-use Rattle.one_line.specs.Drawing.{blocked, drawn_line}
+use Rattle.platefile.specs.declared.drawing.DrawnLine.{DrawnLine}
+use Rattle.one_line.specs.declared.error.DrawError.{DrawError}
+use Rattle.one_line.specs.declared.error.DrawError.TheVariants.{Refused, NoMemory}
+use Rattle.one_line.specs.Drawing.{drawn_line}
 
 module _ {C : Type 0} (m : Meaning) (k : Kind C) where
-  -- an open line that has all its pixels
-  pub record Full (width : ℕ) (pixels : List Wanted) (line : OpenLine C) (cells : List (Cell C)) : Type 0 where
-    pub starts : start_check m (length cells) line.plate.lines width ≡ None
-    pub passes : blocked m k [] pixels ≡ None
-    pub long : length pixels ≡ width
-    pub drawn : OpenRight m k width (reverse pixels) line cells
-
   module _ (cells width : ℕ) (pixels : List Wanted) (plate : Plate C) where
     -- the line is the one drawn, the best of its rivals, and the plate has it
     pub record Draws (after : Plate C) (line : ClosedLine C) : Type 0 where
@@ -28,9 +18,9 @@ module _ {C : Type 0} (m : Meaning) (k : Kind C) where
       pub best : Best m k line
       pub counted : after ≡ record { lines = plate.lines + 1; total = k.join plate.total line.cost }
 
-    -- a line, or its first refusal, or no memory; the last two leave the plate
-    abbrev pub DrawnRight : Drawn C → Type 0
-    DrawnRight (Line after cost codes preview) =
-        Draws after (record { pixels = pixels; codes = vec_items codes; preview = vec_items preview; cost = cost })
-    DrawnRight (Refused after fault) = (drawn_line m k cells plate.lines width pixels ≡ Err fault) × (after ≡ plate)
-    DrawnRight (NoMemory after) = after ≡ plate
+    -- the plate's next line, or its first refusal, or no memory; the last two leave the plate
+    abbrev pub DrawnRight : Plate C → Result (DrawnLine C) DrawError → Type 0
+    DrawnRight after (Ok line) =
+        (line.number ≡ plate.lines) × Draws after (record { pixels = pixels; codes = vec_items line.codes; preview = vec_items line.preview; cost = line.cost })
+    DrawnRight after (Err (Refused fault)) = (drawn_line m k cells plate.lines width pixels ≡ Err fault) × (after ≡ plate)
+    DrawnRight after (Err (NoMemory lack)) = after ≡ plate

@@ -15,7 +15,7 @@ use Rattle.records.specs.declared.record.Mark.TheVariants.{Header, Palette, Pins
 use Rattle.records.specs.declared.record.Stage.{Stage}
 use Rattle.records.specs.declared.record.Stage.TheVariants.{Lines as at_lines, Pinned as at_pinned}
 use Rattle.records.specs.Records.{mark_at, body_at, length_at, after_record, record_check, pins_right}
-use Rattle.platefile.specs.Pixels.{pixels_of_line}
+use Rattle.one_line.specs.Pixels.{pixels_of_line}
 use Rattle.one_line.specs.Drawing.{drawn_line}
 
 -- what comes out of a file: lines, and then how many there are and their total, or the fault that ends it

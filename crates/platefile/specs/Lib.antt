@@ -1,4 +1,3 @@
-pub mod Pixels
 pub mod Drawns
 pub mod Files
 pub mod Reading

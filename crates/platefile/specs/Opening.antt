@@ -1,11 +1,13 @@
 -- What a plate file comes to, from its first byte on.
-use Rattle.std.specs.Prelude.{◌≡◌, ℕ, List, [], drop, Ok, Err}
+use Rattle.std.specs.Prelude.{◌≡◌, ℕ, List, [], drop, Ok, Err, Result}
 use Rattle.cost.specs.Kind.{Kind}
 use Rattle.cost.specs.Kinds.{summed, worst, pair}
 use Rattle.records.specs.declared.display_kind.CostKind.TheVariants.{Summed as by_sum, Worst as by_worst, Pair as by_pair}
 use Rattle.records.specs.declared.heading.Heading.{Heading}
 use Rattle.platefile.specs.declared.opening.Opened.{Opened}
-use Rattle.platefile.specs.declared.opening.Opened.TheVariants.{Summed, Worst, Pair, Fault, NoMemory}
+use Rattle.platefile.specs.declared.opening.Opened.TheVariants.{Summed, Worst, Pair}
+use Rattle.platefile.specs.declared.error.FileError.{FileError}
+use Rattle.platefile.specs.declared.error.FileError.TheVariants.{Fault, NoMemory}
 use Rattle.platefile.specs.declared.reader.Lines.{Lines}
 use Rattle.records.specs.Letters.{meaning_of}
 use Rattle.records.specs.Headings.{heading}
@@ -28,9 +30,9 @@ pub record LinesOpened {C : Type 0} (k : Kind C) (limit : ℕ) (input : List ℕ
   pub right : LinesRight k h input cells lines
 
 -- what opening a file comes to: its lines by the kind that the header names, or the fault of its heading
-abbrev pub OpenedRight : ℕ → List ℕ → ℕ → Opened → Type 0
-OpenedRight limit input cells (Summed lines) = (h : Heading) × (h.cost ≡ by_sum) × LinesOpened summed limit input cells h lines
-OpenedRight limit input cells (Worst lines) = (h : Heading) × (h.cost ≡ by_worst) × LinesOpened worst limit input cells h lines
-OpenedRight limit input cells (Pair lines) = (h : Heading) × (h.cost ≡ by_pair) × LinesOpened pair limit input cells h lines
-OpenedRight limit input cells (Fault fault) = heading limit input ≡ Err fault
-OpenedRight limit input cells NoMemory = Unit {0}
+abbrev pub OpenedRight : ℕ → List ℕ → ℕ → Result Opened FileError → Type 0
+OpenedRight limit input cells (Ok (Summed lines)) = (h : Heading) × (h.cost ≡ by_sum) × LinesOpened summed limit input cells h lines
+OpenedRight limit input cells (Ok (Worst lines)) = (h : Heading) × (h.cost ≡ by_worst) × LinesOpened worst limit input cells h lines
+OpenedRight limit input cells (Ok (Pair lines)) = (h : Heading) × (h.cost ≡ by_pair) × LinesOpened pair limit input cells h lines
+OpenedRight limit input cells (Err (Fault fault)) = heading limit input ≡ Err fault
+OpenedRight limit input cells (Err (NoMemory lack)) = Unit {0}

@@ -2,11 +2,14 @@
 #![tactic(auto)]
 
 mod drawing;
+mod error;
 mod opening;
 mod pieces;
 mod reader;
 mod text;
 
+pub use drawing::DrawnLine;
+pub use error::FileError;
 pub use opening::{Opened, open_file};
 pub use pieces::{Piece, next_text};
 pub use reader::{Lines, Next};

@@ -1,15 +1,16 @@
 // The lines of a plate file, one after another.
-ghost use Rattle.std.specs.Prelude.{◌≡◌, ℕ, ◌+◌, ◌*◌, ◌≤◌, true, false, ◌==◌, List, [], length, drop, if◌then◌else◌, Some, Option};
-ghost use Rattle.std.specs.Option.{unwrap_or};
-ghost use Rattle.platefile.specs.Drawns.{DrawnRight};
+ghost use Rattle.std.specs.Prelude.{◌≡◌, ◌/◌, length, drop};
+ghost use Rattle.records.specs.Cutting.{Cuts};
 ghost use Rattle.records.specs.Letters.{meaning_of};
-ghost use Rattle.platefile.specs.Reading.{LineHere, NextRight, OutRight, Shortens, misplaced_at, out_of_range_at, outputs_at};
-ghost use Rattle.records.specs.Records.{pins_right};
-ghost use Rattle.platefile.specs.Pixels.{pixels_of_line};
-ghost use Rattle.platefile.specs.declared.reader.Next.TheVariants.{Fault, Total};
+ghost use Rattle.records.specs.declared.record.Stage.{Stage};
+ghost use Rattle.platefile.specs.Drawns.{DrawnRight};
+ghost use Rattle.one_line.specs.Pixels.{pixels_of_line};
+ghost use Rattle.platefile.specs.Reading.{FoundRight, LineFound, NextRight, PinnedRight, Shortens};
 
-use crate::drawing::{Drawn, draw_line};
+use crate::drawing::{DrawnLine, LineRecord, draw_line};
+use crate::error::FileError;
 use cost::Cost;
+use one_line::DrawError;
 use records::{
     AnyDisplay, FileFault, Heading, LineFault, PlateFault, Record, Stage, cut, pins_are_right,
 };
@@ -26,125 +27,98 @@ pub struct Lines<'a, C> {
     pub(crate) plate: Plate<C>,
 }
 
-// What comes out next: a line and what is left after it, the report at the end, or the fault that ends the file.
+// What comes out next: a line and what is left after it, or the report at the end.
 pub enum Next<'a, C> {
     Line {
-        number: u16,
-        cost: C,
-        codes: Vec<u8>,
-        preview: Vec<u16>,
+        line: DrawnLine<C>,
         left: Lines<'a, C>,
     },
-    Total {
-        report: Report<C>,
-    },
-    Fault {
-        fault: FileFault,
-    },
-    NoMemory,
+    Total(Report<C>),
 }
 
 // The input from byte `at` on; nothing where it ends before that.
 fn rest_from(input: &[u8], at: usize) -> &[u8]
     ensures { result.now ≡ drop at input.now }
 {
-    let start = at.min(input.len());
-    &input[start..]
+    input.get(at..).unwrap_or(&[])
 }
 
 impl<'a, C: Cost> Lines<'a, C> {
-    // Lets the plate go: a fault ends the file.
-    fn stop(self, fault: FileFault) -> Next<'a, C>
-        ensures { result ≡ Fault fault }
+    // The record at byte `at`, for a reader at this stage.
+    fn record_at(&self, at: usize, mut stage: Stage) -> Result<Record<'a>, FileFault>
+        ensures { (after : Stage) × Cuts self.now.heading.colours self.now.heading.width stage at (drop at self.now.input.now) result after }
     {
-        let Lines {
-            input: _,
-            at: _,
-            heading: _,
-            cells: _,
-            plate,
-        } = self;
-        let _ = plate.report();
-        Next::Fault { fault }
-    }
-
-    // Leaves the rest of the file unread.
-    pub fn abandon(self) {
-        let Lines {
-            input: _,
-            at: _,
-            heading: _,
-            cells: _,
-            plate,
-        } = self;
-        let _ = plate.report();
-    }
-
-    // The next line or the end.
-    pub fn next(self, heap: Global) -> Next<'a, C>
-        ensures out { NextRight C.kind self.entry result }
-        ensures shortens { Shortens self.entry result }
-    {
-        let at = self.at;
         let rest = rest_from(self.input, at);
-        let mut stage = Stage::Lines;
-        let piece = match cut(
+        cut(
             rest,
             at,
             &mut stage,
             self.heading.colours,
             self.heading.width,
-        ) {
-            Ok(piece) => piece,
-            Err(fault) => return self.stop(fault),
+        )
+    }
+
+    // The LN that must follow these pins at once.
+    fn pinned_line(&self, at: usize, pins: &'a [u8]) -> Result<LineRecord<'a>, FileFault>
+        ensures { PinnedRight C.kind self.now at pins.now result }
+    {
+        let Record::Line { targets } = self.record_at(at, Stage::Pinned)? else {
+            // After a PN nothing but its LN may stand.
+            unreachable()
         };
-        match piece {
-            Record::Pins { pins } => self.next_pinned(heap, pins),
-            Record::Line { targets } => self.draw(heap, at, &[], targets),
-            Record::End => self.end(rest),
+        Ok(LineRecord { at, pins, targets })
+    }
+
+    // The line that comes next, or none at the end of the file.
+    fn next_record(&self) -> Result<Option<LineRecord<'a>>, FileFault>
+        ensures { FoundRight C.kind self.now result }
+    {
+        let at = self.at;
+        match self.record_at(at, Stage::Lines)? {
+            Record::Pins { pins } => {
+                if !pins_are_right(self.heading.width, pins) {
+                    return Err(PlateFault::OutOfRange { at }.into());
+                }
+                let line = self.pinned_line(at + (4 + pins.len()), pins)?;
+                Ok(Some(line))
+            }
+            Record::Line { targets } => Ok(Some(LineRecord {
+                at,
+                pins: &[],
+                targets,
+            })),
+            Record::End => {
+                // Nothing may follow an EN.
+                if self.input.len() != at + 4 {
+                    return Err(PlateFault::Misplaced { at: at + 4 }.into());
+                }
+                Ok(None)
+            }
             // No other record may stand among the lines.
             _ => unreachable(),
         }
     }
 
-    // A line with its pins: the PN stands at `at`, and its LN must follow at once.
-    fn next_pinned(self, heap: Global, pins: &'a [u8]) -> Next<'a, C>
-        requires { self.at + (4 + length pins.now) ≤ length self.input.now }
-        ensures right { pins_right self.entry.heading.width pins.now ≡ true → OutRight C.kind (outputs_at C.kind self.entry (self.entry.at + (4 + length pins.now)) (Some pins.now)) self.entry.heading.display result }
-        ensures wrong { pins_right self.entry.heading.width pins.now ≡ false → result ≡ Fault (out_of_range_at self.entry.at) }
+    // The next line or the end. A fault ends the file: it is matched, since a plate has to be let go by hand before `?`.
+    pub fn next(self, heap: Global) -> Result<Next<'a, C>, FileError>
+        ensures out { NextRight C.kind self.entry result }
         ensures shortens { Shortens self.entry result }
     {
-        let place = self.at;
-        if !pins_are_right(self.heading.width, pins) {
-            return self.stop(FileFault::Plate {
-                fault: PlateFault::OutOfRange { at: place },
-            });
+        match self.next_record() {
+            Ok(Some(line)) => self.draw(heap, line),
+            Ok(None) => Ok(Next::Total(self.report())),
+            Err(fault) => {
+                self.abandon();
+                Err(fault.into())
+            }
         }
-        let at = place + (4 + pins.len());
-        let rest = rest_from(self.input, at);
-        let mut stage = Stage::Pinned;
-        let piece = match cut(
-            rest,
-            at,
-            &mut stage,
-            self.heading.colours,
-            self.heading.width,
-        ) {
-            Ok(piece) => piece,
-            Err(fault) => return self.stop(fault),
-        };
-        let Record::Line { targets } = piece else {
-            // After a PN nothing but its LN may stand.
-            unreachable()
-        };
-        self.draw(heap, at, pins, targets)
     }
 
-    // Draws the line whose LN stands at `at`.
-    fn draw(self, heap: Global, at: usize, pins: &[u8], targets: &[u8]) -> Next<'a, C>
-        requires { (length targets.now ≡ 3 * self.heading.width) × (at + (4 + length targets.now) ≤ length self.input.now) }
-        ensures out { (pinned : Option (List ℕ)) → unwrap_or pinned [] ≡ pins.now → LineHere C.kind self.entry at pinned targets.now → OutRight C.kind (outputs_at C.kind self.entry at pinned) self.entry.heading.display result }
-        ensures shortens { self.entry.at ≤ at → Shortens self.entry result }
+    // Draws the line that comes next.
+    fn draw(self, heap: Global, line: LineRecord<'_>) -> Result<Next<'a, C>, FileError>
+        requires { LineFound C.kind self line }
+        ensures out { NextRight C.kind self.entry result }
+        ensures shortens { Shortens self.entry result }
     {
         let Lines {
             input,
@@ -153,65 +127,40 @@ impl<'a, C: Cost> Lines<'a, C> {
             mut cells,
             plate,
         } = self;
-        let number = plate.lines();
-        match draw_any(
-            heap,
-            &heading.display,
-            cells.as_mut_slice(),
-            plate,
-            heading.width,
-            pins,
-            targets,
-        ) {
-            Drawn::Line {
-                plate,
-                cost,
-                codes,
-                preview,
-            } => Next::Line {
-                number,
-                cost,
-                codes,
-                preview,
-                left: Lines {
+        let (plate, drawn) = draw_any(heap, &heading.display, cells.as_mut_slice(), plate, line);
+        match drawn {
+            Ok(drawn) => {
+                let left = Lines {
                     input,
-                    at: at + (4 + targets.len()),
+                    at: line.at + (4 + line.targets.len()),
                     heading,
                     cells,
                     plate,
-                },
-            },
-            Drawn::Refused { plate, fault } => {
-                let _ = plate.report();
-                let refused = LineFault {
-                    fault,
-                    line: number,
-                    at,
                 };
-                Next::Fault {
-                    fault: FileFault::Plate {
-                        fault: PlateFault::Trellis { refused },
-                    },
-                }
+                Ok(Next::Line { line: drawn, left })
             }
-            Drawn::NoMemory { plate } => {
-                let _ = plate.report();
-                Next::NoMemory
+            Err(error) => {
+                // The plate is the one before: a line that was refused does not count.
+                let report = plate.report();
+                match error {
+                    DrawError::Refused(fault) => {
+                        let refused = LineFault {
+                            fault,
+                            line: report.lines,
+                            at: line.at,
+                        };
+                        Err(FileFault::from(PlateFault::from(refused)).into())
+                    }
+                    DrawError::NoMemory(lack) => Err(lack.into()),
+                }
             }
         }
     }
 
-    // The EN stands at `at`: nothing may follow it.
-    fn end(self, rest: &[u8]) -> Next<'a, C>
-        requires { self.at + 4 ≤ length self.input.now }
-        ensures { result ≡ (if length rest.now == 4 then Total (record { lines = self.entry.plate.lines; total = self.entry.plate.total }) else Fault (misplaced_at (self.entry.at + 4))) }
+    // What the plate came to.
+    fn report(self) -> Report<C>
+        ensures { result ≡ record { lines = self.entry.plate.lines; total = self.entry.plate.total } }
     {
-        if rest.len() != 4 {
-            let at = self.at + 4;
-            return self.stop(FileFault::Plate {
-                fault: PlateFault::Misplaced { at },
-            });
-        }
         let Lines {
             input: _,
             at: _,
@@ -219,9 +168,12 @@ impl<'a, C: Cost> Lines<'a, C> {
             cells: _,
             plate,
         } = self;
-        Next::Total {
-            report: plate.report(),
-        }
+        plate.report()
+    }
+
+    // Leaves the rest of the file unread.
+    pub fn abandon(self) {
+        let _ = self.report();
     }
 }
 
@@ -231,18 +183,13 @@ fn draw_any<C: Cost>(
     display: &AnyDisplay,
     cells: &mut [Cell<C>],
     plate: Plate<C>,
-    width: u16,
-    pins: &[u8],
-    targets: &[u8],
-) -> Drawn<C>
-    requires { length targets.now ≡ 3 * width }
-    ensures { DrawnRight (meaning_of display.now) C.kind (length cells.old) width (pixels_of_line pins.now targets.now) plate result }
+    line: LineRecord<'_>,
+) -> (Plate<C>, Result<DrawnLine<C>, DrawError>)
+    ensures { DrawnRight (meaning_of display.now) C.kind (length cells.old) (length line.entry.targets.now / 3) (pixels_of_line line.entry.pins.now line.entry.targets.now) plate result.0 result.1 }
 {
     match display {
-        AnyDisplay::Ham(ham) => draw_line(heap, ham, cells, plate, width, pins, targets),
-        AnyDisplay::HalfBrite(half_brite) => draw_line(
-            heap, half_brite, cells, plate, width, pins, targets,
-        ),
-        AnyDisplay::Fill(fill) => draw_line(heap, fill, cells, plate, width, pins, targets),
+        AnyDisplay::Ham(ham) => draw_line(heap, ham, cells, plate, line),
+        AnyDisplay::HalfBrite(half_brite) => draw_line(heap, half_brite, cells, plate, line),
+        AnyDisplay::Fill(fill) => draw_line(heap, fill, cells, plate, line),
     }
 }

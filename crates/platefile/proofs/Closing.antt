@@ -1,5 +1,5 @@
--- A whole line: started, filled and closed.
-use Rattle.std.proofs.Common.{◌≡◌, ℕ, ◌+◌, ◌<◌, min, List, [], reverse, length, take, Some, None, Ok, Err, Result, sym, ap, ◌∙◌, subst, arith}
+-- A line that has all its pixels, closed.
+use Rattle.std.proofs.Common.{◌≡◌, ℕ, ◌+◌, ◌<◌, min, List, [], reverse, length, take, None, Ok, Err, Result, sym, ap, ◌∙◌, subst, arith}
 use mathlib.Core.List.{reverse-reverse}
 use Rattle.std.proofs.lemmas.List.{length-reverse, take_all}
 use Rattle.std.proofs.lemmas.Bool.{true≢false}
@@ -7,49 +7,29 @@ use Rattle.cost.specs.Kind.{Kind, Lawful}
 use Rattle.display.specs.Machine.{Meaning, Lawful as Sound}
 use Rattle.lines.specs.Checks.{and_then, answer}
 use Rattle.lines.specs.declared.fault.Fault.{Fault}
-use Rattle.trellis.specs.Calls.{start_check, ready_check, started, close_check, line_cost, closed as closing, closed_codes, closed_preview}
+use Rattle.trellis.specs.Calls.{ready_check, close_check, line_cost, closed as closing, closed_codes, closed_preview}
 use Rattle.trellis.specs.declared.plate.OpenLine.{OpenLine}
 use Rattle.trellis.specs.declared.plate.Plate.{Plate}
 use Rattle.viterbi.specs.declared.Cell.{Cell}
 use Rattle.run.specs.Account.{Wanted}
-use Rattle.run.specs.Agreement.{OpenRight}
 use Rattle.run.specs.Rivals.{Best}
 use Rattle.run.proofs.Opened.{close_check_is, closed_best}
 use Rattle.run.proofs.Steps.{taken_back, refused_back}
-use Rattle.one_line.specs.Drawing.{blocked, picked_line, drawn_line}
-use Rattle.platefile.specs.Drawns.{Full, Draws, DrawnRight}
-use Rattle.platefile.specs.declared.drawing.Drawn.{Drawn}
+use Rattle.one_line.specs.Drawing.{blocked, picked_line}
+use Rattle.one_line.specs.Filled.{Full}
+use Rattle.platefile.specs.Drawns.{Draws, DrawnRight}
+use Rattle.platefile.specs.declared.drawing.DrawnLine.{DrawnLine}
+use Rattle.one_line.specs.declared.error.DrawError.{DrawError}
 use Rattle.one_line.proofs.Filling.{ready_is, not_short}
 use Rattle.one_line.proofs.Passing.{best_is_picked}
 use Rattle.one_line.proofs.Starting.{start_passed}
 
 module _ {C : Type 0} (m : Meaning) (k : Kind C) where
-  pub start_refuses : (plate back : Plate C) (cells : List (Cell C)) (width : ℕ) (pixels : List Wanted) (fault : Fault) →
-      ◌≡◌ {A = Result (OpenLine C) (Plate C × Fault)} (Err (back, fault)) (started m k plate cells width) →
-      (drawn_line m k (length cells) plate.lines width pixels ≡ Err fault) × (back ≡ plate)
-  start_refuses plate back cells width pixels fault e =
-      let t = refused_back (start_check m (length cells) plate.lines width) _ plate back fault e in
-      (ap (λ ch. answer (and_then ch (blocked m k [] pixels)) (picked_line m k pixels)) t.0, t.1)
-
-  -- a line that was started and has a pixel refused
-  pub fill_refuses : (cells lines width : ℕ) (pixels : List Wanted) (fault : Fault) → start_check m cells lines width ≡ None → blocked m k [] pixels ≡ Some fault →
-      drawn_line m k cells lines width pixels ≡ Err fault
-  fill_refuses cells lines width pixels fault starts stops =
-      ap (λ ch. answer (and_then ch (blocked m k [] pixels)) (picked_line m k pixels)) starts ∙ ap (λ ch. answer ch (picked_line m k pixels)) stops
-
   -- a line that was filled is closed on the plate and by the cells that it was started with
-  pub whole_line : (plate : Plate C) (cells after : List (Cell C)) (width : ℕ) (pixels : List Wanted) (line : OpenLine C) → start_check m (length cells) plate.lines width ≡ None →
-      length after ≡ length cells → line.plate ≡ plate → blocked m k [] pixels ≡ None → length pixels ≡ width → OpenRight m k width (reverse pixels) line after →
-      (r : Drawn C) → (Full m k width pixels line after → DrawnRight m k (length after) width pixels line.plate r) → DrawnRight m k (length cells) width pixels plate r
-  whole_line plate cells after width pixels line starts kept rests passes long drawn r closes =
-      subst (λ n. DrawnRight m k n width pixels plate r) kept
-      (subst (λ p. DrawnRight m k (length after) width pixels p r) rests
-      (closes (record {
-        starts = ap (λ n. start_check m n line.plate.lines width) kept ∙ ap (λ p. start_check m (length cells) p.lines width) rests ∙ starts;
-        passes = passes;
-        long = long;
-        drawn = drawn;
-      })))
+  pub whole_line : (plate : Plate C) (cells after : List (Cell C)) (width : ℕ) (pixels : List Wanted) (line : OpenLine C) → length after ≡ length cells → line.plate ≡ plate →
+      (left : Plate C) (r : Result (DrawnLine C) DrawError) → DrawnRight m k (length after) width pixels line.plate left r → DrawnRight m k (length cells) width pixels plate left r
+  whole_line plate cells after width pixels line kept rests left r closes =
+      subst (λ n. DrawnRight m k n width pixels plate left r) kept (subst (λ p. DrawnRight m k (length after) width pixels p left r) rests closes)
 
   module _ (sound : Sound m) (law : Lawful k) (width : ℕ) (pixels : List Wanted) (line : OpenLine C) (cells : List (Cell C)) (full : Full m k width pixels line cells)
       (codes preview : List ℕ) (codes_long : length codes ≡ width) (preview_long : length preview ≡ width) where
