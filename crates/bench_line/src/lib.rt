@@ -10,9 +10,10 @@ ghost use Rattle.one_line.specs.declared.Figures.{Figures};
 
 use cost::Summed;
 use display::Ham;
-use one_line::draw_line;
+use one_line::{draw_line, line_cells};
 use std::alloc::Global;
-use viterbi::{Cell, unreached};
+use trellis::WIDEST;
+use viterbi::Cell;
 
 // The sixteen colour registers, as C hands them over.
 #[repr(C)]
@@ -30,6 +31,7 @@ pub extern "C" fn cell_bytes() -> usize
 }
 
 // Writes the codes, the preview and the cost of the cheapest HAM line by summed errors, three target bytes a pixel. False where a call is refused or there is no memory for the cells.
+// A bool and a place for the cost, since C calls it: a Result has no form there.
 #[unsafe(no_mangle)]
 pub extern "C" fn ham_line(
     heap: Global,
@@ -41,22 +43,19 @@ pub extern "C" fn ham_line(
 ) -> bool
     ensures { result ≡ true → (figures : Figures Summed) × (figures.cost.error ≡ cost.new) × BestFront (ham_meaning (record { registers = registers.now.colours })) summed targets.now codes.new preview.new figures }
 {
-    // More than 640 pixels, which start refuses too.
-    if targets.len() > 1920 {
+    // Wider lines start refuses too.
+    if targets.len() > 3 * usize::from(WIDEST) {
         return false;
     }
     let ham = Ham {
         registers: registers.colours,
     };
-    let blank = unreached::<Summed>();
-    let Ok(mut cells) = vec![in heap; blank; (targets.len() / 3 + 1) * 4096] else {
+    let Ok(mut cells) = line_cells::<_, Summed>(heap, &ham, (targets.len() / 3) as u16) else {
         return false;
     };
-    match draw_line(&ham, &mut cells, targets, codes, preview) {
-        Ok(figures) => {
-            *cost = figures.cost.error;
-            true
-        }
-        Err(_) => false,
-    }
+    let Ok(figures) = draw_line(&ham, &mut cells, targets, codes, preview) else {
+        return false;
+    };
+    *cost = figures.cost.error;
+    true
 }

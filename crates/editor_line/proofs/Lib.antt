@@ -1,4 +1,3 @@
 mod Search
-mod Spaced
-mod Finding
+mod Picking
 mod Calling

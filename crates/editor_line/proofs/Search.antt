@@ -1,13 +1,13 @@
 -- One more code of a search, and one more pixel of a line.
-use Rattle.std.proofs.Common.{◌≡◌, ℕ, ◌+◌, ◌*◌, ◌/◌, ◌<◌, ◌⊎◌, List, [], ◌∷◌, ◌++◌, length, drop, Some, None, Option, refl, ap, ◌∙◌, subst, inl, inr, append_assoc, append-nil, arith, length-drop}
+use Rattle.std.proofs.Common.{◌≡◌, ℕ, ◌+◌, ◌<◌, ◌≤◌, ◌⊎◌, List, [], ◌∷◌, ◌++◌, length, drop, Some, None, Option, refl, ap, ◌∙◌, subst, inl, inr, append_assoc, append-nil, arith}
 use Rattle.std.proofs.lemmas.Bool.{cases_lt, le-leb, lt-leb}
+use Rattle.std.proofs.lemmas.List.{drop_all}
 use Rattle.display.specs.Colours.{error_of, levels_of}
 use Rattle.display.specs.Machine.{Meaning, Steps}
 use Rattle.display.specs.declared.colour.Levels.{Levels}
-use Rattle.lines.specs.Lines.{targets_of}
-use Rattle.lines.proofs.Walks.{three_more}
+use Rattle.display.specs.declared.colour.Target.{Target}
 use Rattle.editor_line.specs.declared.nearest.Choice.{Choice}
-use Rattle.editor_line.specs.Nearest.{Nearest, NearestBelow, NearestLine, nearer_of, target_of}
+use Rattle.editor_line.specs.Nearest.{Nearest, NearestBelow, NearestLine, nearer_of}
 
 -- two places at or below k: below it, or at it
 at_or_below : (c k : ℕ) → c < k + 1 → (c < k) ⊎ (c ≡ k)
@@ -66,34 +66,18 @@ module _ (m : Meaning) (s : ℕ) (wanted : Levels) (k : ℕ) where
           })
         ]
 
--- the targets from a pixel on, and past the last
-pub next_target : (bytes : List ℕ) (i : ℕ) → 3 * i + 2 < length bytes → targets_of (drop (3 * i) bytes) ≡ target_of bytes i ∷ targets_of (drop (3 * (i + 1)) bytes)
-next_target bytes i h = ap targets_of (three_more bytes i h)
-
-pub no_target : (bytes : List ℕ) → length bytes < 3 → targets_of bytes ≡ []
-no_target [] h = refl
-no_target (a ∷ []) h = refl
-no_target (a ∷ b ∷ []) h = refl
-no_target (a ∷ b ∷ c ∷ bytes) h = absurd (omega arith)
-
 -- a line as far as it is chosen: whatever goes on from state t by the targets left goes on the whole line
-abbrev pub Goes : Meaning → List ℕ → List ℕ → ℕ → ℕ → Type 0
-Goes m bytes codes t i =
-    (rest : List ℕ) → NearestLine m t (targets_of (drop (3 * i) bytes)) rest → NearestLine m m.start (targets_of bytes) (codes ++ rest)
+abbrev pub Goes : Meaning → List Target → List ℕ → ℕ → ℕ → Type 0
+Goes m targets codes t i = (rest : List ℕ) → NearestLine m t (drop i targets) rest → NearestLine m m.start targets (codes ++ rest)
 
-module _ (m : Meaning) (bytes codes : List ℕ) (t i : ℕ) where
-  module _ (wanted : Levels) (is : wanted ≡ levels_of (target_of bytes i)) (h : 3 * i + 2 < length bytes) (goes : Goes m bytes codes t i) where
-    pub goes_on : (choice : Choice) → Nearest m t wanted m.codes choice → Goes m bytes (codes ++ choice.code ∷ []) choice.state (i + 1)
+module _ (m : Meaning) (targets : List Target) (codes : List ℕ) (t i : ℕ) where
+  module _ (target : Target) (next : drop i targets ≡ target ∷ drop (i + 1) targets) (goes : Goes m targets codes t i) where
+    pub goes_on : (choice : Choice) → Nearest m t (levels_of target) m.codes choice → Goes m targets (codes ++ choice.code ∷ []) choice.state (i + 1)
     goes_on choice near rest line =
-        let near' = subst (λ levels. Nearest m t levels m.codes choice) is near in
-        rw append_assoc (goes (choice.code ∷ rest) (rw (next_target bytes i h) (choice, refl, near', line)))
+        rw append_assoc (goes (choice.code ∷ rest) (rw next (choice, refl, near, line)))
 
-    pub goes_not : NearestBelow m t wanted m.codes None → NearestLine m m.start (targets_of bytes) codes
-    goes_not none =
-        let none' = subst (λ levels. NearestBelow m t levels m.codes None) is none in
-        rw append-nil at (goes [] (rw (next_target bytes i h) none'))
+    pub goes_not : NearestBelow m t (levels_of target) m.codes None → NearestLine m m.start targets codes
+    goes_not none = rw append-nil at (goes [] (rw next none))
 
-  pub goes_all : i ≡ length bytes / 3 → Goes m bytes codes t i → NearestLine m m.start (targets_of bytes) codes
-  goes_all h goes =
-      let e = no_target (drop (3 * i) bytes) (simp length-drop (omega arith)) in
-      rw append-nil at (goes [] (rw e refl))
+  pub goes_all : length targets ≤ i → Goes m targets codes t i → NearestLine m m.start targets codes
+  goes_all h goes = rw append-nil at (goes [] (rw (drop_all i targets h) refl))

@@ -1,15 +1,10 @@
 -- The nearest colour, pixel by pixel.
-use Rattle.std.specs.Prelude.{◌≡◌, ℕ, ◌+◌, ◌*◌, ◌<◌, ◌≤◌, cond, List, [], ◌∷◌, Some, None, Option, nat_le, slice_index}
+use Rattle.std.specs.Prelude.{◌≡◌, ℕ, ◌<◌, ◌≤◌, cond, List, [], ◌∷◌, Some, None, Option, nat_le}
 use Rattle.display.specs.Colours.{error_of, levels_of}
 use Rattle.display.specs.Machine.{Meaning, Steps}
 use Rattle.display.specs.declared.colour.Levels.{Levels}
 use Rattle.display.specs.declared.colour.Target.{Target}
 use Rattle.editor_line.specs.declared.nearest.Choice.{Choice}
-
--- the target of a pixel, by its three bytes
-abbrev pub target_of : List ℕ → ℕ → Target
-target_of bytes pixel =
-    record { red = slice_index bytes (3 * pixel); green = slice_index bytes (3 * pixel + 1); blue = slice_index bytes (3 * pixel + 2) }
 
 -- the older of two choices, unless the newer has less error
 abbrev pub nearer_of : Option Choice → Choice → Choice

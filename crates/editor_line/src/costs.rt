@@ -33,9 +33,10 @@ impl fmt::Display for Costs {
     ghost output = { λ costs. Some (costs_text costs) };
 
     fn fmt<W: fmt::Write>(&self, f: &mut fmt::Formatter<W>) -> fmt::Result {
-        let summed = self.summed;
-        let worst = self.worst;
-        let pair = self.pair;
-        write!(f, "cost summed {summed} worst {worst} pair {pair}")
+        write!(
+            f,
+            "cost summed {} worst {} pair {}",
+            self.summed, self.worst, self.pair
+        )
     }
 }

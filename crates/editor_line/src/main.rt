@@ -13,18 +13,16 @@ use cheapest::{FoundLine, cheapest_line};
 use costs::costs_of_line;
 use display::{DisplayMachine, Fill, Ham};
 use lines::show;
-use nearest::{nearest_line, target_at};
+use nearest::nearest_line;
+use one_line::{DrawError, Figures};
 use std::io;
 use text::{codes_text, preview_text};
 
 const WANTED: [u8; 6] = [136, 119, 0, 0, 119, 119];
 
 fn print_wanted(rt: &HostRuntime, targets: &[u8]) -> io::Result<()> {
-    for pixel in 0..targets.len() / 3 {
-        let target = target_at(targets, pixel);
-        let red = target.red;
-        let green = target.green;
-        let blue = target.blue;
+    let (whole, _) = targets.as_chunks::<3>();
+    for [red, green, blue] in whole {
         println!(rt; "wanted {red} {green} {blue}")?;
     }
     Ok(())
@@ -49,30 +47,26 @@ fn print_line<M: DisplayMachine>(
     codes: &[u8],
     targets: &[u8],
 ) -> io::Result<()> {
-    let text = codes_text(rt.alloc(), codes)?;
-    println!(rt; "{text}")?;
+    println!(rt; "{}", codes_text(rt.alloc(), codes)?)?;
     let mut preview = vec![in rt.alloc(); 0u16; codes.len()]?;
     if let Err(fault) = show(machine, codes, &mut preview) {
         return println!(rt; "{fault}");
     }
-    let text = preview_text(rt.alloc(), &preview)?;
-    println!(rt; "{text}")?;
+    println!(rt; "{}", preview_text(rt.alloc(), &preview)?)?;
     print_costs(rt, machine, codes, targets)
 }
 
 // The codes of a line, its preview and its cost, and what its plate came to.
 fn print_found(rt: &HostRuntime, found: &FoundLine) -> io::Result<()> {
-    let text = codes_text(rt.alloc(), &found.codes)?;
-    println!(rt; "{text}")?;
-    let text = preview_text(rt.alloc(), &found.preview)?;
-    println!(rt; "{text}")?;
-    let cost = found.cost;
+    println!(rt; "{}", codes_text(rt.alloc(), &found.codes)?)?;
+    println!(rt; "{}", preview_text(rt.alloc(), &found.preview)?)?;
+    let Figures { cost, report } = found.figures;
     println!(rt; "cost {cost}")?;
-    let lines = found.lines;
-    let total = found.total;
-    println!(rt; "lines {lines} total {total}")?;
-    let pixels = found.codes.len();
-    println!(rt; "no legal line of {pixels} pixels costs less by these targets")
+    println!(rt; "lines {} total {}", report.lines, report.total)?;
+    println!(rt;
+        "no legal line of {} pixels costs less by these targets",
+        found.codes.len()
+    )
 }
 
 // The cheapest line by the calls; or why a call was refused.
@@ -81,9 +75,10 @@ fn print_cheapest<M: DisplayMachine>(
     machine: &M,
     targets: &[u8],
 ) -> io::Result<()> {
-    match cheapest_line(rt.alloc(), machine, targets)? {
+    match cheapest_line(rt.alloc(), machine, targets) {
         Ok(found) => print_found(rt, &found),
-        Err(fault) => println!(rt; "{fault}"),
+        Err(DrawError::Refused(fault)) => println!(rt; "{fault}"),
+        Err(DrawError::NoMemory(lack)) => Err(lack.into()),
     }
 }
 

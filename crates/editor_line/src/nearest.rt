@@ -1,7 +1,7 @@
 // The nearest colour, pixel by pixel: what looks best at each pixel, whatever it does to the next.
-ghost use Rattle.std.specs.Prelude.{◌≡◌, ◌+◌, ◌*◌, ◌<◌, length, IfOk};
+ghost use Rattle.std.specs.Prelude.{◌≡◌, IfOk};
 ghost use Rattle.lines.specs.Lines.{targets_of};
-ghost use Rattle.editor_line.specs.Nearest.{NearestBelow, NearestLine, nearer_of, target_of};
+ghost use Rattle.editor_line.specs.Nearest.{NearestBelow, NearestLine};
 
 use display::{DisplayMachine, Levels, Target};
 use std::alloc::{AllocError, Global};
@@ -14,44 +14,20 @@ pub struct Choice {
     pub error: u32,
 }
 
-// The target of a pixel, by its three bytes.
-pub fn target_at(targets: &[u8], pixel: usize) -> Target
-    requires { 3 * pixel + 2 < length targets.now }
-    ensures { result ≡ target_of targets.now pixel }
-{
-    Target {
-        red: targets[3 * pixel],
-        green: targets[3 * pixel + 1],
-        blue: targets[3 * pixel + 2],
-    }
-}
-
-fn nearer(best: Option<Choice>, new: Choice) -> Choice
-    ensures { result ≡ nearer_of best new }
-{
-    match best {
-        Some(old) if old.error <= new.error => old,
-        _ => new,
-    }
-}
-
 // The first code that leads to a nearest colour, or none where no code has a next state.
 pub fn nearest<M: DisplayMachine>(machine: &M, state: u16, wanted: Levels) -> Option<Choice>
     ensures { NearestBelow (M.meaning machine.now) state wanted (M.meaning machine.now).codes result }
 {
-    let mut best: Option<Choice> = None;
-    for code in 0..machine.codes() {
-        if let Some(next) = machine.step(state, code) {
-            let error = wanted.error(machine.shown(next));
-            let new = Choice {
+    (0..machine.codes())
+        .filter_map(|code| {
+            let next = machine.step(state, code)?;
+            Some(Choice {
                 code,
                 state: next,
-                error,
-            };
-            best = Some(nearer(best, new));
-        }
-    }
-    best
+                error: wanted.error(machine.shown(next)),
+            })
+        })
+        .min_by_key(|choice| choice.error)
 }
 
 // The code line that takes a nearest colour at each pixel. It ends where no code has a next state.
@@ -62,17 +38,16 @@ pub fn nearest_line<M: DisplayMachine>(
 ) -> Result<Vec<u8>, AllocError>
     ensures { IfOk result (λ codes. NearestLine (M.meaning machine.now) (M.meaning machine.now).start (targets_of targets.now) codes.items) }
 {
+    let (whole, _) = targets.as_chunks::<3>();
     let mut codes = Vec::new(heap);
     let mut state = machine.start();
-    for pixel in 0..targets.len() / 3 {
-        let wanted = target_at(targets, pixel).levels();
-        match nearest(machine, state, wanted) {
-            Some(choice) => {
-                codes.push(choice.code)?;
-                state = choice.state;
-            }
-            None => return Ok(codes),
-        }
+    for bytes in whole {
+        let wanted = Target::from(*bytes).levels();
+        let Some(choice) = nearest(machine, state, wanted) else {
+            break;
+        };
+        codes.push(choice.code)?;
+        state = choice.state;
     }
     Ok(codes)
 }

@@ -2,28 +2,17 @@
 ghost use Rattle.std.specs.Prelude.{◌≡◌, IfOk, string_bytes};
 ghost use Rattle.editor_line.specs.Texts.{codes_line, preview_line};
 
-use display::Colour;
-use std::alloc::Global;
-use std::fmt::Write;
-use std::io;
+use lines::{Codes, Preview};
+use std::alloc::{AllocError, Global};
 
-pub fn codes_text(heap: Global, codes: &[u8]) -> io::Result<String>
+pub fn codes_text(heap: Global, codes: &[u8]) -> Result<String, AllocError>
     ensures { IfOk result (λ text. string_bytes text ≡ codes_line codes.now) }
 {
-    let mut text = String::from_str(heap, "codes")?;
-    for code in codes {
-        write!(text, " {code}")?;
-    }
-    Ok(text)
+    format!(in heap; "codes{}", Codes(codes))
 }
 
-pub fn preview_text(heap: Global, preview: &[u16]) -> io::Result<String>
+pub fn preview_text(heap: Global, preview: &[u16]) -> Result<String, AllocError>
     ensures { IfOk result (λ text. string_bytes text ≡ preview_line preview.now) }
 {
-    let mut text = String::from_str(heap, "preview")?;
-    for number in preview {
-        let colour = Colour(*number);
-        write!(text, " {colour}")?;
-    }
-    Ok(text)
+    format!(in heap; "preview{}", Preview(preview))
 }

@@ -1,6 +1,6 @@
 // A plate takes 1,024 lines and not one more. Such a file is too long to stand among the examples, so it is made here.
-use cost::Summed;
-use platefile::{Lines, Opened, Piece, next_text, open_file};
+use cost::{Cost, Summed};
+use platefile::{FileError, Lines, Opened, Piece, next_text, open_file};
 use std::alloc::{AllocError, Global};
 use std::process::Abort;
 use std::test::Fail;
@@ -9,12 +9,8 @@ use std::test::Fail;
 fn plate_of(heap: Global, lines: usize) -> Result<Vec<u8>, AllocError> {
     let mut bytes = Vec::new(heap);
     bytes.extend_from_slice(b"HD\x04\x00FS\x01\x00PL\x20\x00\x00\x00\x00\x0f")?;
-    for _ in 0..28 {
-        bytes.push(0)?;
-    }
-    for _ in 0..lines {
-        bytes.extend_from_slice(b"LN\x03\x00\xff\x00\x00")?;
-    }
+    bytes.resize(44, 0)?;
+    bytes.extend_from_slice(&b"LN\x03\x00\xff\x00\x00".repeat(heap, lines)?)?;
     bytes.extend_from_slice(b"EN\x00\x00")?;
     Ok(bytes)
 }
@@ -22,15 +18,21 @@ fn plate_of(heap: Global, lines: usize) -> Result<Vec<u8>, AllocError> {
 // How many lines come out, and the text that ends them.
 fn last_text(heap: Global, lines: Lines<'_, Summed>, most: usize) -> Result<(usize, String), Fail> {
     let mut lines = lines;
+    // By number: it is how many lines there were, and its bound ends the loop.
     for count in 0..=most {
-        match next_text(heap, lines) {
-            Piece::Line { text: _, left } => lines = left,
-            Piece::Last { text } => return Ok((count, text)),
-            Piece::NoMemory => return Err(Fail::new("no memory")),
-        }
+        let Piece { text, left } = next_text(heap, lines)?;
+        let Some(left) = left else {
+            return Ok((count, text));
+        };
+        lines = left;
     }
     lines.abandon();
     Err(Fail::new("no end"))
+}
+
+fn not_summed<C: Cost>(lines: Lines<'_, C>) -> Fail {
+    lines.abandon();
+    Fail::new("not summed")
 }
 
 fn check_end(
@@ -42,22 +44,16 @@ fn check_end(
 ) -> Result<(), Fail> {
     let input = plate_of(heap, lines)?;
     match open_file(heap, &input, input.len(), 32) {
-        Opened::Summed { lines: left } => {
+        Ok(Opened::Summed(left)) => {
             let (count, text) = last_text(heap, left, lines)?;
             assert_eq!(rt; count, drawn);
             assert_eq!(rt; text.as_str(), end);
             Ok(())
         }
-        Opened::Worst { lines } => {
-            lines.abandon();
-            Err(Fail::new("worst"))
-        }
-        Opened::Pair { lines } => {
-            lines.abandon();
-            Err(Fail::new("pair"))
-        }
-        Opened::Fault { fault } => Err(Fail::new(fault.number())),
-        Opened::NoMemory => Err(Fail::new("no memory")),
+        Ok(Opened::Worst(lines)) => Err(not_summed(lines)),
+        Ok(Opened::Pair(lines)) => Err(not_summed(lines)),
+        Err(FileError::Fault(fault)) => Err(Fail::new(fault.number())),
+        Err(FileError::NoMemory(_)) => Err(Fail::new("no memory")),
     }
 }
 

@@ -10,14 +10,12 @@ use std::fs::File;
 
 fn print_plate(rt: &HostRuntime, path: &str, bounds: Bounds) -> anyhow::Result<()> {
     let input = read_input(rt.alloc(), File::open(rt, path)?, bounds.limit)?;
-    print_file(rt, &input, bounds.limit, bounds.cells)
+    print_file(rt, &input, bounds)
 }
 
 fn run(rt: &HostRuntime) -> anyhow::Result<()> {
-    let mut words = env::args(rt)?;
     // The first word is the program's own name.
-    let _ = words.next();
-    for path in words {
+    for path in env::args(rt)?.skip(1) {
         println!(rt; "{path} by plate")?;
         print_plate(rt, &path, SMALL)?;
         println!(rt; "{path} by encode_plate")?;

@@ -1,4 +1,6 @@
 // What a program can take.
+use trellis::WIDEST;
+
 #[derive(Clone, Copy)]
 pub struct Bounds {
     // The most bytes that a file may have.
@@ -13,8 +15,9 @@ pub const SMALL: Bounds = Bounds {
     cells: 2624,
 };
 
-// Any plate: the start and the 640 pixels of the widest line, each with a cell for every colour.
+// Any plate: the start and the pixels of the widest line, each with a cell for every colour.
+// By `as`: no function of a trait can be called in a constant.
 pub const WHOLE: Bounds = Bounds {
     limit: 4194304,
-    cells: 641 * 4096,
+    cells: (WIDEST as usize + 1) * 4096,
 };

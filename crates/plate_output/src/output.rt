@@ -1,7 +1,8 @@
 // Prints a plate file, each line as soon as it is drawn.
+use crate::bounds::Bounds;
 use anyhow::anyhow;
 use cost::Cost;
-use platefile::{Lines, Opened, Piece, fault_text, next_text, open_file};
+use platefile::{FileError, Lines, Opened, Piece, next_text, open_file};
 use std::fmt::Display;
 
 fn no_memory() -> anyhow::Error {
@@ -13,41 +14,34 @@ fn print_lines<R: Print + AllocGlobal, C: Cost + Display>(
     rt: &R,
     lines: Lines<'_, C>,
 ) -> anyhow::Result<()> {
-    let mut lines = lines;
-    loop {
-        match next_text(rt.alloc(), lines) {
-            Piece::Line { text, left } => {
-                if let Err(error) = print!(rt; "{text}") {
-                    left.abandon();
-                    return Err(error.into());
-                }
-                lines = left;
+    let mut next = Some(lines);
+    while let Some(lines) = next {
+        let Piece { text, left } = next_text(rt.alloc(), lines).map_err(|_| no_memory())?;
+        if let Err(error) = print!(rt; "{text}") {
+            if let Some(left) = left {
+                left.abandon();
             }
-            Piece::Last { text } => {
-                print!(rt; "{text}")?;
-                return Ok(());
-            }
-            Piece::NoMemory => return Err(no_memory()),
+            return Err(error.into());
         }
+        next = left;
     }
+    Ok(())
 }
 
 // Prints the lines of a file and its total, or the fault that ends it.
 pub fn print_file<R: Print + AllocGlobal>(
     rt: &R,
     input: &[u8],
-    limit: usize,
-    cells: usize,
+    bounds: Bounds,
 ) -> anyhow::Result<()> {
-    match open_file(rt.alloc(), input, limit, cells) {
-        Opened::Summed { lines } => print_lines(rt, lines),
-        Opened::Worst { lines } => print_lines(rt, lines),
-        Opened::Pair { lines } => print_lines(rt, lines),
-        Opened::Fault { fault } => {
-            let text = fault_text(rt.alloc(), fault)?;
-            print!(rt; "{text}")?;
+    match open_file(rt.alloc(), input, bounds.limit, bounds.cells) {
+        Ok(Opened::Summed(lines)) => print_lines(rt, lines),
+        Ok(Opened::Worst(lines)) => print_lines(rt, lines),
+        Ok(Opened::Pair(lines)) => print_lines(rt, lines),
+        Err(FileError::Fault(fault)) => {
+            println!(rt; "{fault}")?;
             Ok(())
         }
-        Opened::NoMemory => Err(no_memory()),
+        Err(FileError::NoMemory(_)) => Err(no_memory()),
     }
 }

@@ -1,24 +1,15 @@
-use Rattle.std.proofs.Common.{◌≡◌, ◌+◌, Some, sym, ap, ◌∙◌, subst, arith}
-use Rattle.display.specs.Colours.{error_of}
-use Rattle.editor_line.specs.Nearest.{NearestBelow}
-use Rattle.editor_line.proofs.Search.{skip_code, take_code}
+use Rattle.std.proofs.Common.{arith, rules}
+use borrow.Author.Tests.{tests}
+use Rattle.std.proofs.lemmas.Iterator.{YieldsList-from_range}
+use Rattle.std.proofs.lemmas.Iterator.Consumers.{YieldsList-from_filter_map}
+use Rattle.editor_line.proofs.Picking.{choice_of, nearest_picked}
 use Rattle.editor_line.proofs.nearest.nearest.Goals as goal
-use Rattle.editor_line.proofs.nearest.nearest.Goals.{in-Some, in_default}
-
-pub loop-code-preserved : goal.loop-code-preserved
-loop-code-preserved g c =
-    let m = g.M.DisplayMachine.meaning c.args.machine.now in
-    let s = c.args.state in
-    let wanted = c.args.wanted in
-    let k = c.loop-code.code in
-    elim c.match-step.branch [
-      | in-Some w ↦ (let near = take_code m s wanted k w.in-Some.next w.error-error.result (sym c.step.ensures.value ∙ w.in-Some.is) (w.error-error.ensures.value ∙ ap (error_of wanted) w.shown.ensures) c.loop-code.best c.loop-code.invariant in
-          subst (NearestBelow m s wanted (k + 1)) (ap Some (sym w.nearer.ensures) ∙ sym w.best-is) near)
-      | in_default w ↦ subst (NearestBelow m s wanted (k + 1)) (sym w.best-is) (skip_code m s wanted k c.loop-code.best (sym c.step.ensures.value ∙ w.in_default.is) c.loop-code.invariant)
-    ]
 
 pub returns : goal.returns
 returns g c =
     let m = g.M.DisplayMachine.meaning c.args.machine.now in
-    let end : c.loop-code.code ≡ m.codes = omega arith in
-    subst (λ k. NearestBelow m c.args.state c.args.wanted k c.loop-code.best) end c.loop-code.invariant
+    let s = c.args.state in
+    let wanted = c.args.wanted in
+    nearest_picked _ _ (λ x k q h. search rules) m s wanted m.codes
+    (YieldsList-from_filter_map _ (choice_of m s wanted) (YieldsList-from_range 0 m.codes m.codes (cc) (omega arith)) c.filter_map.ensures.closure (λ x r q k. search (rules, tests)))
+    c.min_by_key.result c.min_by_key.ensures.ran
