@@ -5,6 +5,7 @@ use crate::encoder::Wanted;
 use display::{DisplayMachine, Fill, HalfBrite, Ham, Target};
 use run_tests::Fuse;
 use std::alloc::{AllocError, Global};
+use std::array;
 
 // A linear congruence, of which the high half is given out.
 #[derive(Drop)]
@@ -27,11 +28,11 @@ impl Chance {
     }
 
     fn byte(&mut self) -> u8 {
-        BYTES[self.below(4) as usize]
+        BYTES[usize::from(self.below(4))]
     }
 
     pub fn colour(&mut self) -> u16 {
-        COLOURS[self.below(8) as usize]
+        COLOURS[usize::from(self.below(8))]
     }
 
     // Every other pixel is pinned, if any is to be, and more often to a low code than to a high one.
@@ -64,29 +65,21 @@ impl Chance {
         codes: u8,
         pinned: bool,
     ) -> Result<Vec<Wanted>, AllocError> {
-        let mut wanted = Vec::new(heap);
-        for _ in 0..width {
-            wanted.push(self.pixel(codes, pinned))?;
-        }
-        Ok(wanted)
+        (0..width).map(|_| self.pixel(codes, pinned)).collect(heap)
     }
 
     // A palette.
     pub fn colours<const N: usize>(&mut self) -> [u16; N] {
-        let mut colours = [0; N];
-        for colour in colours.iter_mut() {
-            *colour = self.colour();
-        }
-        colours
+        array::from_fn(|_| self.colour())
     }
 }
 
 // A machine with colours by chance.
-pub trait Drawn: DisplayMachine + Copy {
+pub trait ByChance: DisplayMachine + Copy {
     fn drawn(chance: &mut Chance) -> Self;
 }
 
-impl Drawn for Fuse {
+impl ByChance for Fuse {
     fn drawn(chance: &mut Chance) -> Fuse {
         Fuse {
             colours: chance.colours(),
@@ -94,7 +87,7 @@ impl Drawn for Fuse {
     }
 }
 
-impl Drawn for Fill {
+impl ByChance for Fill {
     fn drawn(chance: &mut Chance) -> Fill {
         Fill {
             entries: chance.colours(),
@@ -102,7 +95,7 @@ impl Drawn for Fill {
     }
 }
 
-impl Drawn for HalfBrite {
+impl ByChance for HalfBrite {
     fn drawn(chance: &mut Chance) -> HalfBrite {
         HalfBrite {
             registers: chance.colours(),
@@ -110,7 +103,7 @@ impl Drawn for HalfBrite {
     }
 }
 
-impl Drawn for Ham {
+impl ByChance for Ham {
     fn drawn(chance: &mut Chance) -> Ham {
         Ham {
             registers: chance.colours(),

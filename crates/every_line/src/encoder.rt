@@ -1,6 +1,6 @@
 // An encoder that tries every code line. It asks of the machine where a code leads, what is shown there and what holds, and of the
 // cost kind what its trait answers; it keeps no column and no cell.
-ghost use Rattle.std.specs.Prelude.{◌≡◌, ◌<◌, ◌≤◌, length, vec_len};
+ghost use Rattle.std.specs.Prelude.{◌<◌, ◌≤◌};
 
 use cost::Cost;
 use display::{DisplayMachine, Target};
@@ -32,7 +32,7 @@ fn squared(byte: u8, level: u16) -> u32
     requires { level < 16 }
     ensures { result ≤ 225 }
 {
-    let difference = (byte as u32 / 16).abs_diff(level as u32);
+    let difference = u32::from(byte / 16).abs_diff(u32::from(level));
     difference * difference
 }
 
@@ -49,9 +49,8 @@ fn extended<M: DisplayMachine, C: Cost>(
     pixel: Wanted,
     code: u8,
 ) -> Option<Ending<C>> {
-    match pixel.pin {
-        Some(pin) if pin != code => return None,
-        _ => {}
+    if pixel.pin.is_some_and(|pin| pin != code) {
+        return None;
     }
     let state = machine.step(line.state, code)?;
     let error = error(pixel.target, machine.shown(state));
@@ -63,25 +62,35 @@ fn extended<M: DisplayMachine, C: Cost>(
     })
 }
 
-// How a code line ends, if it is legal and keeps its pins.
+// How many code lines are as long as these pixels. A line's number has its codes as digits, that of the first pixel the lowest.
+fn count_code_lines<M: DisplayMachine>(machine: &M, wanted: &[Wanted]) -> u64 {
+    let codes = u64::from(machine.codes());
+    u32::try_from(wanted.len()).map_or(u64::MAX, |pixels| codes.saturating_pow(pixels))
+}
+
+// How the code line of this number ends, if it is legal and keeps its pins.
 fn ending_of<M: DisplayMachine, C: Cost>(
     machine: &M,
     wanted: &[Wanted],
-    codes: &[u8],
+    number: u64,
 ) -> Option<Ending<C>> {
+    let codes = u64::from(machine.codes());
+    let mut rest = number;
     let mut line = Ending {
         cost: C::zero(),
         state: machine.start(),
         prev: 0,
         code: 0,
     };
-    for (pixel, code) in wanted.iter().zip(codes.iter()) {
-        line = extended(machine, line, *pixel, *code)?;
+    for pixel in wanted {
+        let code = rest.checked_rem(codes)? as u8;
+        line = extended(machine, line, *pixel, code)?;
+        rest /= codes;
     }
     Some(line)
 }
 
-// The cheaper goes first; of equals the one with the lower last state, then with the lower state before, then with the lower code.
+// Costs have no order but what `at_most` answers, so none can be derived. The cheaper goes first; of equals the one with the lower last state, then with the lower state before, then with the lower code.
 fn goes_first<C: Cost>(x: Ending<C>, y: Ending<C>) -> bool {
     let no_dearer = x.cost.at_most(y.cost);
     if no_dearer && y.cost.at_most(x.cost) {
@@ -91,78 +100,31 @@ fn goes_first<C: Cost>(x: Ending<C>, y: Ending<C>) -> bool {
     }
 }
 
-fn first_of<C: Cost>(best: Option<Ending<C>>, new: Ending<C>) -> Ending<C> {
-    match best {
-        Some(old) if goes_first(old, new) => old,
-        _ => new,
-    }
-}
-
-// Goes on to the next code line, as a counter does whose first wheel turns fastest. After the last line it says no.
-fn advance(codes: &mut [u8], limit: u8) -> bool {
-    for code in codes.iter_mut() {
-        if limit > 0 && *code < limit - 1 {
-            *code += 1;
-            return true;
-        }
-        *code = 0;
-    }
-    false
-}
-
 // How the first of all legal lines that keep their pins ends, of those to one state if one is given.
 fn first_ending<M: DisplayMachine, C: Cost>(
-    heap: Global,
     machine: &M,
     wanted: &[Wanted],
     end: Option<u16>,
-) -> Result<Option<Ending<C>>, AllocError> {
-    let mut codes = vec![in heap; 0u8; wanted.len()]?;
-    let mut best: Option<Ending<C>> = None;
-    for _ in 0..u64::MAX {
-        if let Some(new) = ending_of(machine, wanted, &codes) {
-            if end.is_none() || end == Some(new.state) {
-                best = Some(first_of(best, new));
-            }
-        }
-        if !advance(&mut codes, machine.codes()) {
-            break;
-        }
-    }
-    Ok(best)
+) -> Option<Ending<C>> {
+    (0..count_code_lines(machine, wanted))
+        .filter_map(|number| ending_of(machine, wanted, number))
+        .filter(|line: &Ending<C>| end.is_none_or(|end| end == line.state))
+        .reduce(|best, new| if goes_first(best, new) { best } else { new })
 }
 
 // Whether there is a legal line at all that keeps its pins.
-pub fn has_line<M: DisplayMachine, C: Cost>(
-    heap: Global,
-    machine: &M,
-    wanted: &[Wanted],
-) -> Result<bool, AllocError> {
-    let ending: Option<Ending<C>> = first_ending(heap, machine, wanted, None)?;
-    Ok(ending.is_some())
+pub fn has_line<M: DisplayMachine, C: Cost>(machine: &M, wanted: &[Wanted]) -> bool {
+    (0..count_code_lines(machine, wanted)).any(|number| ending_of::<M, C>(
+        machine, wanted, number,
+    ).is_some())
 }
 
 // How many legal lines that keep their pins cost at most this.
-pub fn count_lines<M: DisplayMachine, C: Cost>(
-    heap: Global,
-    machine: &M,
-    wanted: &[Wanted],
-    limit: C,
-) -> Result<u64, AllocError> {
-    let mut codes = vec![in heap; 0u8; wanted.len()]?;
-    let mut count = 0u64;
-    for _ in 0..u64::MAX {
-        let ending: Option<Ending<C>> = ending_of(machine, wanted, &codes);
-        if let Some(line) = ending {
-            if line.cost.at_most(limit) {
-                count = count.saturating_add(1);
-            }
-        }
-        if !advance(&mut codes, machine.codes()) {
-            break;
-        }
-    }
-    Ok(count)
+pub fn count_lines<M: DisplayMachine, C: Cost>(machine: &M, wanted: &[Wanted], limit: C) -> usize {
+    (0..count_code_lines(machine, wanted))
+        .filter_map(|number| ending_of(machine, wanted, number))
+        .filter(|line: &Ending<C>| line.cost.at_most(limit))
+        .count()
 }
 
 // The cheapest legal line that keeps the pins. Its last step is that of the first of all lines, and the step before is that of the
@@ -172,19 +134,15 @@ pub fn cheapest_line<M: DisplayMachine, C: Cost>(
     machine: &M,
     wanted: &[Wanted],
 ) -> Result<Option<Line<C>>, AllocError> {
-    let last: Option<Ending<C>> = first_ending(heap, machine, wanted, None)?;
+    let last: Option<Ending<C>> = first_ending(machine, wanted, None);
     let Some(last) = last else {
         return Ok(None);
     };
     let mut codes = vec![in heap; 0u8; wanted.len()]?;
     let mut state = last.state;
+    // By number: each step asks for the pixels up to its own. Over iter_mut().enumerate().rev() the end of that range is not proved.
     for pixel in (0..wanted.len()).rev() {
-        let step: Option<Ending<C>> = first_ending(
-            heap,
-            machine,
-            &wanted[0..pixel + 1],
-            Some(state),
-        )?;
+        let step: Option<Ending<C>> = first_ending(machine, &wanted[..=pixel], Some(state));
         if let Some(step) = step {
             codes[pixel] = step.code;
             state = step.prev;

@@ -7,51 +7,42 @@ use std::test::Fail;
 
 #[test]
 fn ham_summed(rt: HostRuntime) -> Result<(), Fail> {
-    assert_eq!(rt; check_machine::<Ham, Summed>(&rt, rt.alloc(), 18, 3)?, 0);
+    assert_eq!(rt; check_machine::<Ham, Summed>(&rt, 18, 3)?, 0);
     Ok(())
 }
 
 #[test]
 fn ham_worst(rt: HostRuntime) -> Result<(), Fail> {
-    assert_eq!(rt; check_machine::<Ham, Worst>(&rt, rt.alloc(), 18, 3)?, 0);
+    assert_eq!(rt; check_machine::<Ham, Worst>(&rt, 18, 3)?, 0);
     Ok(())
 }
 
 #[test]
 fn ham_pair(rt: HostRuntime) -> Result<(), Fail> {
-    assert_eq!(rt; check_machine::<Ham, Pair>(&rt, rt.alloc(), 18, 3)?, 0);
+    assert_eq!(rt; check_machine::<Ham, Pair>(&rt, 18, 3)?, 0);
     Ok(())
 }
 
 #[test]
 fn ham_misses(rt: HostRuntime) -> Result<(), Fail> {
-    assert_eq!(rt; check_machine::<Ham, Misses>(&rt, rt.alloc(), 18, 3)?, 0);
+    assert_eq!(rt; check_machine::<Ham, Misses>(&rt, 18, 3)?, 0);
     Ok(())
 }
 
 #[test]
 fn half_brite_summed(rt: HostRuntime) -> Result<(), Fail> {
-    assert_eq!(rt;
-        check_machine::<HalfBrite, Summed>(&rt, rt.alloc(), 12, 3)?,
-        0
-    );
+    assert_eq!(rt; check_machine::<HalfBrite, Summed>(&rt, 12, 3)?, 0);
     Ok(())
 }
 
 #[test]
 fn half_brite_worst(rt: HostRuntime) -> Result<(), Fail> {
-    assert_eq!(rt;
-        check_machine::<HalfBrite, Worst>(&rt, rt.alloc(), 12, 3)?,
-        0
-    );
+    assert_eq!(rt; check_machine::<HalfBrite, Worst>(&rt, 12, 3)?, 0);
     Ok(())
 }
 
 #[test]
 fn half_brite_pair(rt: HostRuntime) -> Result<(), Fail> {
-    assert_eq!(rt;
-        check_machine::<HalfBrite, Pair>(&rt, rt.alloc(), 12, 3)?,
-        0
-    );
+    assert_eq!(rt; check_machine::<HalfBrite, Pair>(&rt, 12, 3)?, 0);
     Ok(())
 }

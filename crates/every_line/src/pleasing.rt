@@ -1,12 +1,13 @@
 // Programs that please the eye: each looks right, and answers something else than the displays, the cost kinds and the calls here.
-use crate::compared::littered;
 use cost::{Cost, Pair, Summed};
 use display::{DisplayMachine, HalfBrite, Ham, Levels, Target};
-use lines::{Fault, judge, show};
+use lines::{judge, show};
 use run::{Answer, Call, Entry, run};
+use run_tests::littered;
 use std::alloc::{AllocError, Global};
 use std::test::Fail;
 
+// Stated here too: those of `run_tests` stand in its test modules, which no other crate sees.
 const HAM: Ham = Ham { registers: [0; 16] };
 
 const OLIVE: Target = Target {
@@ -24,20 +25,12 @@ const TEAL: Target = Target {
 // The same two, byte by byte.
 const OLIVE_TEAL: [u8; 6] = [136, 119, 0, 0, 119, 119];
 
-// The first code from a state that shows the nearest colour, and where it leads.
+// The first code from a state that shows the nearest colour, and where it leads. Its own few lines, since the editor's stand in a
+// program, which is no library; a crate for the two would be no plainer.
 fn nearest<M: DisplayMachine>(machine: &M, state: u16, wanted: Levels) -> Option<(u8, u16)> {
-    let mut best = None;
-    let mut least = u32::MAX;
-    for code in 0..machine.codes() {
-        if let Some(next) = machine.step(state, code) {
-            let error = wanted.error(machine.shown(next));
-            if error < least {
-                least = error;
-                best = Some((code, next));
-            }
-        }
-    }
-    best
+    (0..machine.codes())
+        .filter_map(|code| Some((code, machine.step(state, code)?)))
+        .min_by_key(|(_, next)| wanted.error(machine.shown(*next)))
 }
 
 // A line that takes the nearest colour at each pixel, whatever that does to the next one.
@@ -60,14 +53,8 @@ fn nearest_codes<M: DisplayMachine>(
 #[test]
 fn nearest_colours_pay_147(rt: HostRuntime) -> Result<(), Fail> {
     let codes = nearest_codes(rt.alloc(), &HAM, &[OLIVE, TEAL])?;
-    let judged: Result<Summed, Fault> = judge(&HAM, &codes, &OLIVE_TEAL);
-    match judged {
-        Ok(cost) => {
-            assert_eq!(rt; cost.error, 147);
-            Ok(())
-        },
-        Err(_) => Err(Fail::new("not judged")),
-    }
+    assert_eq!(rt; judge(&HAM, &codes, &OLIVE_TEAL), Ok(Summed { error: 147 }));
+    Ok(())
 }
 
 #[test]
@@ -87,11 +74,7 @@ fn the_calls_pay_64(rt: HostRuntime) -> Result<(), Fail> {
         return Err(Fail::new("no answer"));
     };
     match &last.answer {
-        Answer::Closed {
-            codes: _,
-            preview: _,
-            cost,
-        } => {
+        Ok(Answer::Closed { cost, .. }) => {
             assert_eq!(rt; cost.error, 64);
             Ok(())
         },

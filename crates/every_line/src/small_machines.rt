@@ -1,57 +1,57 @@
 // Lines of up to six pixels of the fuse, of which few are legal, since nothing follows once it is burnt; and of up to four pixels in
 // fill mode, with equal colours in the palette. Of the pinned pixels some are refused: one that has nothing to follow or to repeat.
-use crate::compared::{check_line, check_machine, littered};
+use crate::compared::{check_line, check_machine};
 use crate::encoder::{Wanted, cheapest_line};
 use cost::{Pair, Summed, Worst};
 use display::{Fill, Target};
-use run_tests::{Fuse, Misses};
+use run_tests::{Fuse, Misses, littered};
 use std::test::Fail;
 
 #[test]
 fn fuse_summed(rt: HostRuntime) -> Result<(), Fail> {
-    assert!(rt; check_machine::<Fuse, Summed>(&rt, rt.alloc(), 240, 6)? > 0);
+    assert!(rt; check_machine::<Fuse, Summed>(&rt, 240, 6)? > 0);
     Ok(())
 }
 
 #[test]
 fn fuse_worst(rt: HostRuntime) -> Result<(), Fail> {
-    assert!(rt; check_machine::<Fuse, Worst>(&rt, rt.alloc(), 240, 6)? > 0);
+    assert!(rt; check_machine::<Fuse, Worst>(&rt, 240, 6)? > 0);
     Ok(())
 }
 
 #[test]
 fn fuse_pair(rt: HostRuntime) -> Result<(), Fail> {
-    assert!(rt; check_machine::<Fuse, Pair>(&rt, rt.alloc(), 240, 6)? > 0);
+    assert!(rt; check_machine::<Fuse, Pair>(&rt, 240, 6)? > 0);
     Ok(())
 }
 
 #[test]
 fn fuse_misses(rt: HostRuntime) -> Result<(), Fail> {
-    assert!(rt; check_machine::<Fuse, Misses>(&rt, rt.alloc(), 240, 6)? > 0);
+    assert!(rt; check_machine::<Fuse, Misses>(&rt, 240, 6)? > 0);
     Ok(())
 }
 
 #[test]
 fn fill_summed(rt: HostRuntime) -> Result<(), Fail> {
-    assert!(rt; check_machine::<Fill, Summed>(&rt, rt.alloc(), 120, 4)? > 0);
+    assert!(rt; check_machine::<Fill, Summed>(&rt, 120, 4)? > 0);
     Ok(())
 }
 
 #[test]
 fn fill_worst(rt: HostRuntime) -> Result<(), Fail> {
-    assert!(rt; check_machine::<Fill, Worst>(&rt, rt.alloc(), 120, 4)? > 0);
+    assert!(rt; check_machine::<Fill, Worst>(&rt, 120, 4)? > 0);
     Ok(())
 }
 
 #[test]
 fn fill_pair(rt: HostRuntime) -> Result<(), Fail> {
-    assert!(rt; check_machine::<Fill, Pair>(&rt, rt.alloc(), 120, 4)? > 0);
+    assert!(rt; check_machine::<Fill, Pair>(&rt, 120, 4)? > 0);
     Ok(())
 }
 
 #[test]
 fn fill_misses(rt: HostRuntime) -> Result<(), Fail> {
-    assert!(rt; check_machine::<Fill, Misses>(&rt, rt.alloc(), 120, 4)? > 0);
+    assert!(rt; check_machine::<Fill, Misses>(&rt, 120, 4)? > 0);
     Ok(())
 }
 
@@ -81,9 +81,6 @@ fn a_dearer_state_ties(rt: HostRuntime) -> Result<(), Fail> {
     assert_eq!(rt; best.codes.as_slice(), [0u8, 1, 1].as_slice());
     assert_eq!(rt; best.cost.error, 49);
     let mut cells = littered::<Worst>(rt.alloc(), 4 * 3)?;
-    assert_eq!(rt;
-        check_line(&rt, rt.alloc(), &fuse, &mut cells, &line)?.tied,
-        1
-    );
+    assert_eq!(rt; check_line(&rt, &fuse, &mut cells, &line)?.tied, 1);
     Ok(())
 }

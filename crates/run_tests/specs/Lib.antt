@@ -1,3 +1,4 @@
 pub mod Fuse
+pub mod Litter
 pub mod Misses
 pub mod Same

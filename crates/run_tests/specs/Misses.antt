@@ -1,12 +1,12 @@
 -- Misses: each pixel with an error counts for one; the count stops at the greatest number of 32 bits.
 use Rattle.std.specs.Prelude.{ℕ, ◌+◌, min, cond, ◌==◌, nat_le}
-use Rattle.std.proofs.Common.{arith}
+use Rattle.std.proofs.Math.Nat.{min-le_right}
 use Rattle.cost.specs.Kind.{Kind}
 use Rattle.cost.specs.Kinds.{top}
 use Rattle.run_tests.specs.declared.misses.Misses.{Misses}
 
 abbrev pub misses_of : ℕ → Misses
-misses_of n = record { pixels = min n top; bounded = omega arith }
+misses_of n = record { pixels = min n top; bounded = min-le_right n top }
 
 abbrev pub misses : Kind Misses
 misses = record {

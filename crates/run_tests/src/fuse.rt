@@ -41,11 +41,9 @@ impl DisplayMachine for Fuse {
     }
 
     fn shown(&self, state: u16) -> u16 {
-        if state < 3 {
-            self.colours[state as usize] % 4096
-        } else {
-            0
-        }
+        self.colours
+            .get(usize::from(state))
+            .map_or(0, |colour| colour % 4096)
     }
 
     fn holds(&self, code: u8) -> bool {

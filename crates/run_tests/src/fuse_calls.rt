@@ -1,9 +1,10 @@
 // The fuse and the calls that its tests make.
 use crate::fuse::Fuse;
 use crate::misses::Misses;
-use crate::told::{record_of, record_text};
+use crate::told::told;
+use crate::wanted::RED_TARGET;
 use display::Target;
-use run::{Call, Entry};
+use run::Call;
 use std::alloc::Global;
 use std::io;
 
@@ -27,11 +28,7 @@ pub const GLOW_TARGET: Target = Target {
     blue: 0,
 };
 
-pub const BURNT_TARGET: Target = Target {
-    red: 255,
-    green: 0,
-    blue: 0,
-};
+pub const BURNT_TARGET: Target = RED_TARGET;
 
 // Pixels at which they are wanted.
 pub const DARK: Call = Call::Pixel {
@@ -46,11 +43,6 @@ pub const BURNT: Call = Call::Pixel {
     target: BURNT_TARGET,
 };
 
-pub const CLOSE: Call = Call::Close {
-    codes: 3,
-    preview: 3,
-};
-
 // Dark is wanted at a pixel that may have this code alone.
 pub fn dark_by(code: u8) -> Call {
     Call::Pin {
@@ -60,7 +52,6 @@ pub fn dark_by(code: u8) -> Call {
 }
 
 // What the calls answer, with the fuse and misses.
-pub fn told(heap: Global, cells: usize, calls: &[Call]) -> io::Result<String> {
-    let record: Vec<Entry<Misses>> = record_of(heap, &FUSE, cells, calls)?;
-    record_text(heap, &record)
+pub fn fuse_told(heap: Global, cells: usize, calls: &[Call]) -> io::Result<String> {
+    told::<Fuse, Misses>(heap, &FUSE, cells, calls)
 }

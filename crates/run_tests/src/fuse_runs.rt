@@ -1,10 +1,13 @@
 // Runs with the fuse. It shows 000 while dark, 700 while it glows and f00 when burnt, so a legal line is some codes 0, a code 1,
 // some codes 0, and at the very end perhaps another code 1. What a run should come to is worked out by hand from that.
-use crate::fuse_calls::{BURNT, CELLS, CLOSE, DARK, FUSE, GLOW, dark_by, told};
+use crate::fuse::Fuse;
+use crate::fuse_calls::{BURNT, CELLS, DARK, FUSE, GLOW, dark_by, fuse_told};
+use crate::litter::littered;
 use crate::misses::Misses;
-use crate::told::{littered, record_of, record_text};
+use crate::told::{record_text, told};
+use crate::wanted::{CLOSE, HAM, HAM_CELLS, OLIVE, TEAL};
 use cost::{Pair, Summed, Worst};
-use display::{Ham, Target};
+use display::Ham;
 use run::{Call, Entry, run};
 use std::test::Fail;
 
@@ -20,7 +23,7 @@ fn the_cheapest_line(rt: HostRuntime) -> Result<(), Fail> {
         Call::Report,
     ];
     assert_eq!(rt;
-        told(rt.alloc(), CELLS, &calls)?.as_str(),
+        fuse_told(rt.alloc(), CELLS, &calls)?.as_str(),
         "taken; taken; taken; taken; codes 1 0 1 preview 700 700 f00 cost 1; lines 1 total 1"
     );
     Ok(())
@@ -31,19 +34,16 @@ fn the_cheapest_line(rt: HostRuntime) -> Result<(), Fail> {
 #[test]
 fn other_kinds_on_the_fuse(rt: HostRuntime) -> Result<(), Fail> {
     let calls = [Call::Start { width: 3 }, GLOW, DARK, BURNT, CLOSE];
-    let summed: Vec<Entry<Summed>> = record_of(rt.alloc(), &FUSE, CELLS, &calls)?;
     assert_eq!(rt;
-        record_text(rt.alloc(), &summed)?.as_str(),
+        told::<Fuse, Summed>(rt.alloc(), &FUSE, CELLS, &calls)?.as_str(),
         "taken; taken; taken; taken; codes 1 0 1 preview 700 700 f00 cost 49"
     );
-    let worst: Vec<Entry<Worst>> = record_of(rt.alloc(), &FUSE, CELLS, &calls)?;
     assert_eq!(rt;
-        record_text(rt.alloc(), &worst)?.as_str(),
+        told::<Fuse, Worst>(rt.alloc(), &FUSE, CELLS, &calls)?.as_str(),
         "taken; taken; taken; taken; codes 0 1 1 preview 000 700 f00 cost 49"
     );
-    let pair: Vec<Entry<Pair>> = record_of(rt.alloc(), &FUSE, CELLS, &calls)?;
     assert_eq!(rt;
-        record_text(rt.alloc(), &pair)?.as_str(),
+        told::<Fuse, Pair>(rt.alloc(), &FUSE, CELLS, &calls)?.as_str(),
         "taken; taken; taken; taken; codes 1 0 1 preview 700 700 f00 cost 49/1"
     );
     Ok(())
@@ -53,26 +53,9 @@ fn other_kinds_on_the_fuse(rt: HostRuntime) -> Result<(), Fail> {
 // and 007 is the lower.
 #[test]
 fn misses_on_another_machine(rt: HostRuntime) -> Result<(), Fail> {
-    let olive = Target {
-        red: 136,
-        green: 119,
-        blue: 0,
-    };
-    let teal = Target {
-        red: 0,
-        green: 119,
-        blue: 119,
-    };
-    let calls = [
-        Call::Start { width: 2 },
-        Call::Pixel { target: olive },
-        Call::Pixel { target: teal },
-        CLOSE,
-    ];
-    let ham = Ham { registers: [0; 16] };
-    let record: Vec<Entry<Misses>> = record_of(rt.alloc(), &ham, 3 * 4096, &calls)?;
+    let calls = [Call::Start { width: 2 }, OLIVE, TEAL, CLOSE];
     assert_eq!(rt;
-        record_text(rt.alloc(), &record)?.as_str(),
+        told::<Ham, Misses>(rt.alloc(), &HAM, HAM_CELLS, &calls)?.as_str(),
         "taken; taken; taken; codes 23 55 preview 007 077 cost 1"
     );
     Ok(())
@@ -93,7 +76,7 @@ fn ties(rt: HostRuntime) -> Result<(), Fail> {
         Call::Report,
     ];
     assert_eq!(rt;
-        told(rt.alloc(), CELLS, &calls)?.as_str(),
+        fuse_told(rt.alloc(), CELLS, &calls)?.as_str(),
         "taken; taken; codes 0 preview 000 cost 1; \
          taken; taken; taken; codes 0 1 preview 000 700 cost 1; lines 2 total 2"
     );
@@ -116,7 +99,7 @@ fn a_pin(rt: HostRuntime) -> Result<(), Fail> {
         CLOSE,
     ];
     assert_eq!(rt;
-        told(rt.alloc(), CELLS, &calls)?.as_str(),
+        fuse_told(rt.alloc(), CELLS, &calls)?.as_str(),
         "taken; taken; taken; taken; codes 0 0 1 preview 000 000 700 cost 0; \
          taken; taken; taken; taken; codes 1 0 0 preview 700 700 700 cost 2"
     );
@@ -136,7 +119,7 @@ fn back_takes_the_pin(rt: HostRuntime) -> Result<(), Fail> {
         CLOSE,
     ];
     assert_eq!(rt;
-        told(rt.alloc(), CELLS, &calls)?.as_str(),
+        fuse_told(rt.alloc(), CELLS, &calls)?.as_str(),
         "taken; taken; taken; taken; taken; taken; codes 0 0 1 preview 000 000 700 cost 0"
     );
     Ok(())
@@ -155,7 +138,7 @@ fn a_close_after_back(rt: HostRuntime) -> Result<(), Fail> {
         Call::Report,
     ];
     assert_eq!(rt;
-        told(rt.alloc(), CELLS, &calls)?.as_str(),
+        fuse_told(rt.alloc(), CELLS, &calls)?.as_str(),
         "taken; taken; taken; taken; taken; codes 0 0 preview 000 000 cost 1; lines 1 total 1"
     );
     Ok(())
@@ -176,7 +159,7 @@ fn an_abandoned_line(rt: HostRuntime) -> Result<(), Fail> {
         Call::Report,
     ];
     assert_eq!(rt;
-        told(rt.alloc(), CELLS, &calls)?.as_str(),
+        fuse_told(rt.alloc(), CELLS, &calls)?.as_str(),
         "taken; taken; taken; taken; taken; taken; taken; codes 0 preview 000 cost 1; lines 1 total 1"
     );
     Ok(())

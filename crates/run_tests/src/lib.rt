@@ -7,7 +7,7 @@ mod fuse;
 mod fuse_calls;
 #[cfg(test)]
 mod fuse_runs;
-mod kind;
+mod litter;
 mod misses;
 #[cfg(test)]
 mod plate_calls;
@@ -16,7 +16,10 @@ mod refused_runs;
 #[cfg(test)]
 mod told;
 #[cfg(test)]
+mod wanted;
+#[cfg(test)]
 mod worked_lines;
 
 pub use fuse::Fuse;
+pub use litter::littered;
 pub use misses::Misses;

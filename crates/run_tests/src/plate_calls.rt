@@ -1,10 +1,12 @@
 // The calls themselves, with the fuse: what a refused call gives back and leaves, and what close does with cells and buffers that
-// a run never lends it. The two parts of an answer are taken apart in a second step, since the check covers no pattern that reaches
-// further into a variant that holds a bounded number.
+// a run never lends it.
+ghost use Rattle.std.specs.Prelude.{◌<◌};
+
 use crate::fuse_calls::{BURNT_TARGET, DARK_TARGET, FUSE, GLOW_TARGET};
 use crate::misses::Misses;
 use display::{DisplayMachine, Target};
 use lines::Fault;
+use run::buffers;
 use std::process::Abort;
 use std::test::Fail;
 use trellis::{OpenLine, Plate, Report};
@@ -25,18 +27,6 @@ const UNREACHED: Cell<Misses> = Cell {
     code: 0,
 };
 
-fn same_cells(xs: &[Cell<Misses>], ys: &[Cell<Misses>]) -> bool {
-    for (x, y) in xs.iter().zip(ys.iter()) {
-        if x.reached != y.reached || x.prev != y.prev || x.code != y.code {
-            return false;
-        }
-        if x.cost.pixels != y.cost.pixels {
-            return false;
-        }
-    }
-    xs.len() == ys.len()
-}
-
 fn check_fault(rt: &impl Abort, fault: Fault, number: u8, pixel: usize) -> Result<(), Fail> {
     assert_eq!(rt; fault.number(), number);
     assert_eq!(rt; fault.pixel(), pixel);
@@ -49,14 +39,10 @@ fn started(
     cells: &mut [Cell<Misses>],
     width: u16,
 ) -> Result<OpenLine<Misses>, Fail> {
-    match plate.start(&FUSE, cells, width) {
-        Ok(line) => Ok(line),
-        Err(refused) => {
-            let (plate, fault) = refused;
-            let _ = plate.report();
-            Err(Fail::new(fault))
-        }
-    }
+    plate.start(&FUSE, cells, width).map_err(|(plate, fault)| {
+        let _ = plate.report();
+        Fail::new(fault)
+    })
 }
 
 // The line with one pixel more, or let go if that is refused.
@@ -87,12 +73,8 @@ fn one_line(cells: &mut [Cell<Misses>]) -> Result<Plate<Misses>, Fail> {
     let line = started(Plate::new(), cells, 1)?;
     let line = with_pixel(line, cells, BURNT_TARGET)?;
     match line.close(&FUSE, cells, &mut [0], &mut [0]) {
-        Ok(closed) => {
-            let (plate, _) = closed;
-            Ok(plate)
-        }
-        Err(refused) => {
-            let (line, fault) = refused;
+        Ok((plate, _)) => Ok(plate),
+        Err((line, fault)) => {
             let _ = line.abandon().report();
             Err(Fail::new(fault))
         }
@@ -107,27 +89,23 @@ fn refused_close(
     preview: &mut [u16],
 ) -> Result<(Fault, Report<Misses>), Fail> {
     match line.close(&FUSE, cells, codes, preview) {
-        Ok(closed) => {
-            let (plate, _) = closed;
+        Ok((plate, _)) => {
             let _ = plate.report();
             Err(Fail::new("the close was taken"))
         }
-        Err(refused) => {
-            let (line, fault) = refused;
-            Ok((fault, line.abandon().report()))
-        }
+        Err((line, fault)) => Ok((fault, line.abandon().report())),
     }
 }
 
 // A close after a cell was overwritten is refused by 11 and writes nothing; the line can be abandoned.
-fn check_broken(rt: &impl Abort, place: usize, cell: Cell<Misses>) -> Result<(), Fail> {
+fn check_broken(rt: &impl Abort, place: usize, cell: Cell<Misses>) -> Result<(), Fail>
+    requires { place < 9 }
+{
     let mut cells = [LITTER; 9];
     let mut codes = [9u8; 2];
     let mut preview = [9u16; 2];
     let line = two_pixels(&mut cells)?;
-    if place < cells.len() {
-        cells[place] = cell;
-    }
+    cells[place] = cell;
     let (fault, report) = refused_close(line, &cells, &mut codes, &mut preview)?;
     check_fault(rt, fault, 11, 2)?;
     assert_eq!(rt; report.lines, 0);
@@ -147,12 +125,11 @@ fn a_refused_start(rt: HostRuntime) -> Result<(), Fail> {
             let _ = line.abandon().report();
             Err(Fail::new("started with too few cells"))
         }
-        Err(refused) => {
-            let (plate, fault) = refused;
+        Err((plate, fault)) => {
             let line = started(plate, &mut [LITTER; 6], 1)?;
             let report = line.abandon().report();
             check_fault(&rt, fault, 3, 0)?;
-            assert!(rt; same_cells(&before, &cells));
+            assert_eq!(rt; before, cells);
             assert_eq!(rt; report.lines, 1);
             assert_eq!(rt; report.total.pixels, 1);
             Ok(())
@@ -165,9 +142,9 @@ fn a_refused_start(rt: HostRuntime) -> Result<(), Fail> {
 fn one_column_at_a_time(rt: HostRuntime) -> Result<(), Fail> {
     let mut cells = [LITTER; 9];
     let line = started(Plate::new(), &mut cells, 2)?;
-    let start_stays = same_cells(&cells[3..9], &[LITTER; 6]);
+    let start_stays = cells[3..9] == [LITTER; 6];
     let line = with_pixel(line, &mut cells, GLOW_TARGET)?;
-    let pixel_stays = same_cells(&cells[6..9], &[LITTER; 3]);
+    let pixel_stays = cells[6..9] == [LITTER; 3];
     let pixels = line.pixels();
     let _ = line.abandon().report();
     assert!(rt; start_stays);
@@ -189,7 +166,7 @@ fn a_refused_pixel(rt: HostRuntime) -> Result<(), Fail> {
     let _ = line.abandon().report();
     assert!(rt; first.is_ok());
     assert!(rt; second.is_ok());
-    assert!(rt; same_cells(&before, &cells));
+    assert_eq!(rt; before, cells);
     assert_eq!(rt; pixels, 2);
     match third {
         Ok(()) => Err(Fail::new("the pixel was taken")),
@@ -264,8 +241,7 @@ fn buffers_longer_than_the_line(rt: HostRuntime) -> Result<(), Fail> {
     let mut preview = [9u16; 3];
     let line = two_pixels(&mut cells)?;
     match line.close(&FUSE, &cells, &mut codes, &mut preview) {
-        Ok(closed) => {
-            let (plate, cost) = closed;
+        Ok((plate, cost)) => {
             let report = plate.report();
             assert_eq!(rt; codes, [1, 1, 9, 9]);
             assert_eq!(rt; preview, [0x700, 0xf00, 9]);
@@ -273,8 +249,7 @@ fn buffers_longer_than_the_line(rt: HostRuntime) -> Result<(), Fail> {
             assert_eq!(rt; report.lines, 1);
             Ok(())
         }
-        Err(refused) => {
-            let (line, fault) = refused;
+        Err((line, fault)) => {
             let _ = line.abandon().report();
             Err(Fail::new(fault))
         }
@@ -293,5 +268,13 @@ fn a_buffer_shorter_than_the_line(rt: HostRuntime) -> Result<(), Fail> {
     assert_eq!(rt; report.lines, 0);
     assert_eq!(rt; codes, [9, 9]);
     assert_eq!(rt; preview, [9]);
+    Ok(())
+}
+
+#[test]
+fn buffers_of_the_lengths_asked_for(rt: HostRuntime) -> Result<(), Fail> {
+    let (codes, preview) = buffers(rt.alloc(), 3, 2)?;
+    assert_eq!(rt; codes.as_slice(), [0u8; 3].as_slice());
+    assert_eq!(rt; preview.as_slice(), [0u16; 2].as_slice());
     Ok(())
 }

@@ -1,26 +1,24 @@
 // Runs with the fuse in which calls are refused, or do not find what takes them.
-use crate::fuse_calls::{BURNT, CELLS, CLOSE, DARK, FUSE, GLOW, dark_by, told};
+use crate::fuse_calls::{BURNT, CELLS, DARK, FUSE, GLOW, dark_by, fuse_told};
 use crate::misses::Misses;
 use crate::told::{record_of, record_text};
+use crate::wanted::CLOSE;
 use run::{Call, Entry};
 use std::test::Fail;
 
-fn close_into(codes: usize, preview: usize) -> Call {
+fn close_by(codes: usize, preview: usize) -> Call {
     Call::Close { codes, preview }
 }
 
 // 1: a plate has 1,024 lines, so the next start is refused, whatever its width; each of the lines misses its one pixel.
 #[test]
 fn a_full_plate(rt: HostRuntime) -> Result<(), Fail> {
-    let mut calls = Vec::new(rt.alloc());
-    for _ in 0..1024 {
-        calls.push(Call::Start { width: 1 })?;
-        calls.push(BURNT)?;
-        calls.push(CLOSE)?;
-    }
-    calls.push(Call::Start { width: 1 })?;
-    calls.push(Call::Start { width: 0 })?;
-    calls.push(Call::Report)?;
+    let mut calls = [Call::Start { width: 1 }, BURNT, CLOSE].repeat(rt.alloc(), 1024)?;
+    calls.extend_from_slice(&[
+        Call::Start { width: 1 },
+        Call::Start { width: 0 },
+        Call::Report,
+    ])?;
     let record: Vec<Entry<Misses>> = record_of(rt.alloc(), &FUSE, CELLS, &calls)?;
     assert!(rt; record.len() == 3075);
     assert_eq!(rt;
@@ -42,7 +40,7 @@ fn a_bad_width(rt: HostRuntime) -> Result<(), Fail> {
         Call::Report,
     ];
     assert_eq!(rt;
-        told(rt.alloc(), 641 * 3, &calls)?.as_str(),
+        fuse_told(rt.alloc(), 641 * 3, &calls)?.as_str(),
         "fault 2 trellis pixel 0; fault 2 trellis pixel 0; taken; taken; lines 0 total 0"
     );
     Ok(())
@@ -58,12 +56,12 @@ fn too_few_cells(rt: HostRuntime) -> Result<(), Fail> {
         CLOSE,
     ];
     assert_eq!(rt;
-        told(rt.alloc(), 8, &calls)?.as_str(),
+        fuse_told(rt.alloc(), 8, &calls)?.as_str(),
         "fault 3 trellis pixel 0; taken; taken; codes 0 preview 000 cost 0"
     );
     let calls = [Call::Start { width: 0 }, Call::Start { width: 1 }];
     assert_eq!(rt;
-        told(rt.alloc(), 0, &calls)?.as_str(),
+        fuse_told(rt.alloc(), 0, &calls)?.as_str(),
         "fault 2 trellis pixel 0; fault 3 trellis pixel 0"
     );
     Ok(())
@@ -81,7 +79,7 @@ fn a_full_line(rt: HostRuntime) -> Result<(), Fail> {
         CLOSE,
     ];
     assert_eq!(rt;
-        told(rt.alloc(), CELLS, &calls)?.as_str(),
+        fuse_told(rt.alloc(), CELLS, &calls)?.as_str(),
         "taken; taken; taken; fault 4 trellis pixel 2; fault 4 trellis pixel 2; \
          codes 0 0 preview 000 000 cost 0"
     );
@@ -94,16 +92,16 @@ fn an_empty_line(rt: HostRuntime) -> Result<(), Fail> {
     let calls = [
         Call::Start { width: 1 },
         Call::Back,
-        close_into(0, 0),
+        close_by(0, 0),
         DARK,
         Call::Back,
         Call::Back,
-        close_into(1, 1),
+        close_by(1, 1),
         Call::Abandon,
         Call::Report,
     ];
     assert_eq!(rt;
-        told(rt.alloc(), CELLS, &calls)?.as_str(),
+        fuse_told(rt.alloc(), CELLS, &calls)?.as_str(),
         "taken; fault 5 trellis pixel 0; fault 5 trellis pixel 0; taken; taken; \
          fault 5 trellis pixel 0; fault 5 trellis pixel 0; taken; lines 0 total 0"
     );
@@ -121,7 +119,7 @@ fn an_unknown_pin(rt: HostRuntime) -> Result<(), Fail> {
         CLOSE,
     ];
     assert_eq!(rt;
-        told(rt.alloc(), CELLS, &calls)?.as_str(),
+        fuse_told(rt.alloc(), CELLS, &calls)?.as_str(),
         "taken; fault 7 trellis pixel 0; taken; fault 7 trellis pixel 1; \
          codes 0 preview 000 cost 0"
     );
@@ -143,7 +141,7 @@ fn no_way(rt: HostRuntime) -> Result<(), Fail> {
         CLOSE,
     ];
     assert_eq!(rt;
-        told(rt.alloc(), CELLS, &calls)?.as_str(),
+        fuse_told(rt.alloc(), CELLS, &calls)?.as_str(),
         "taken; taken; taken; fault 8 trellis pixel 2; fault 8 trellis pixel 2; \
          fault 8 trellis pixel 2; fault 7 trellis pixel 2; codes 1 1 preview 700 f00 cost 2"
     );
@@ -157,13 +155,13 @@ fn a_short_buffer(rt: HostRuntime) -> Result<(), Fail> {
         Call::Start { width: 2 },
         GLOW,
         BURNT,
-        close_into(1, 2),
-        close_into(2, 1),
-        close_into(2, 2),
+        close_by(1, 2),
+        close_by(2, 1),
+        close_by(2, 2),
         Call::Report,
     ];
     assert_eq!(rt;
-        told(rt.alloc(), CELLS, &calls)?.as_str(),
+        fuse_told(rt.alloc(), CELLS, &calls)?.as_str(),
         "taken; taken; taken; fault 9 trellis pixel 2; fault 9 trellis pixel 2; \
          codes 1 1 preview 700 f00 cost 0; lines 1 total 0"
     );
@@ -174,13 +172,16 @@ fn a_short_buffer(rt: HostRuntime) -> Result<(), Fail> {
 #[test]
 fn no_open_line(rt: HostRuntime) -> Result<(), Fail> {
     assert_eq!(rt;
-        told(rt.alloc(), CELLS, &[DARK, Call::Report])?.as_str(),
+        fuse_told(rt.alloc(), CELLS, &[DARK, Call::Report])?.as_str(),
         ""
     );
-    assert_eq!(rt; told(rt.alloc(), CELLS, &[dark_by(0)])?.as_str(), "");
-    assert_eq!(rt; told(rt.alloc(), CELLS, &[Call::Back])?.as_str(), "");
-    assert_eq!(rt; told(rt.alloc(), CELLS, &[CLOSE])?.as_str(), "");
-    assert_eq!(rt; told(rt.alloc(), CELLS, &[Call::Abandon])?.as_str(), "");
+    assert_eq!(rt; fuse_told(rt.alloc(), CELLS, &[dark_by(0)])?.as_str(), "");
+    assert_eq!(rt; fuse_told(rt.alloc(), CELLS, &[Call::Back])?.as_str(), "");
+    assert_eq!(rt; fuse_told(rt.alloc(), CELLS, &[CLOSE])?.as_str(), "");
+    assert_eq!(rt;
+        fuse_told(rt.alloc(), CELLS, &[Call::Abandon])?.as_str(),
+        ""
+    );
     Ok(())
 }
 
@@ -189,7 +190,7 @@ fn no_open_line(rt: HostRuntime) -> Result<(), Fail> {
 fn no_line_after_a_refused_start(rt: HostRuntime) -> Result<(), Fail> {
     let calls = [Call::Start { width: 0 }, DARK, Call::Report];
     assert_eq!(rt;
-        told(rt.alloc(), CELLS, &calls)?.as_str(),
+        fuse_told(rt.alloc(), CELLS, &calls)?.as_str(),
         "fault 2 trellis pixel 0"
     );
     Ok(())
@@ -200,19 +201,19 @@ fn no_line_after_a_refused_start(rt: HostRuntime) -> Result<(), Fail> {
 fn no_plate_at_rest(rt: HostRuntime) -> Result<(), Fail> {
     let start = Call::Start { width: 1 };
     assert_eq!(rt;
-        told(rt.alloc(), CELLS, &[start, DARK, start])?.as_str(),
+        fuse_told(rt.alloc(), CELLS, &[start, DARK, start])?.as_str(),
         "taken; taken"
     );
     assert_eq!(rt;
-        told(rt.alloc(), CELLS, &[start, DARK, Call::Report])?.as_str(),
+        fuse_told(rt.alloc(), CELLS, &[start, DARK, Call::Report])?.as_str(),
         "taken; taken"
     );
     assert_eq!(rt;
-        told(rt.alloc(), CELLS, &[Call::Report, start])?.as_str(),
+        fuse_told(rt.alloc(), CELLS, &[Call::Report, start])?.as_str(),
         "lines 0 total 0"
     );
     assert_eq!(rt;
-        told(rt.alloc(), CELLS, &[Call::Report, Call::Report])?.as_str(),
+        fuse_told(rt.alloc(), CELLS, &[Call::Report, Call::Report])?.as_str(),
         "lines 0 total 0"
     );
     Ok(())

@@ -1,26 +1,12 @@
 // A run as text: what each of its calls answered, one after another.
+use crate::litter::littered;
 use cost::Cost;
-use display::{Colour, DisplayMachine};
+use display::DisplayMachine;
+use lines::{Codes, Fault, Preview};
 use run::{Answer, Call, Entry, run};
 use std::alloc::{AllocError, Global};
-use std::fmt::{Display, Write};
+use std::fmt::{self, Display, Write};
 use std::io;
-use viterbi::Cell;
-
-// Cells as an earlier use could have left them: each says that it is reached, and at no cost.
-pub fn littered<C: Cost>(heap: Global, count: usize) -> Result<Vec<Cell<C>>, AllocError> {
-    let cell = Cell {
-        reached: true,
-        cost: C::zero(),
-        prev: 1,
-        code: 1,
-    };
-    let mut cells = Vec::new(heap);
-    for _ in 0..count {
-        cells.push(cell)?;
-    }
-    Ok(cells)
-}
 
 // The record of the calls, on so many cells with litter in them.
 pub fn record_of<M: DisplayMachine, C: Cost>(
@@ -33,34 +19,29 @@ pub fn record_of<M: DisplayMachine, C: Cost>(
     run(heap, machine, &mut cells, calls)
 }
 
-fn write_numbers(text: &mut String, codes: &[u8], preview: &[u16]) -> io::Result<()> {
-    text.push_str("codes")?;
-    for code in codes {
-        write!(text, " {code}")?;
-    }
-    text.push_str(" preview")?;
-    for number in preview {
-        let colour = Colour(*number);
-        write!(text, " {colour}")?;
-    }
-    Ok(())
-}
+// An answer, printed.
+#[derive(Drop)]
+struct AnswerText<'a, C: Drop>(&'a Result<Answer<C>, Fault>);
 
-fn write_answer<C: Cost + Display>(text: &mut String, answer: &Answer<C>) -> io::Result<()> {
-    match answer {
-        Answer::Taken => text.push_str("taken")?,
-        Answer::Closed {
-            codes,
-            preview,
-            cost,
-        } => {
-            write_numbers(text, codes, preview)?;
-            write!(text, " cost {cost}")?;
+impl<C: Cost + Display> Display for AnswerText<'_, C> {
+    fn fmt<W: fmt::Write>(&self, f: &mut fmt::Formatter<W>) -> fmt::Result {
+        match self.0 {
+            Ok(Answer::Taken) => write!(f, "taken"),
+            Ok(
+                Answer::Closed {
+                    codes,
+                    preview,
+                    cost,
+                },
+            ) => {
+                let codes = Codes(codes);
+                let preview = Preview(preview);
+                write!(f, "codes{codes} preview{preview} cost {cost}")
+            }
+            Ok(Answer::Reported { lines, total }) => write!(f, "lines {lines} total {total}"),
+            Err(fault) => write!(f, "{fault}"),
         }
-        Answer::Reported { lines, total } => write!(text, "lines {lines} total {total}")?,
-        Answer::Refused { fault } => write!(text, "{fault}")?,
     }
-    Ok(())
 }
 
 pub fn record_text<C: Cost + Display>(heap: Global, entries: &[Entry<C>]) -> io::Result<String> {
@@ -69,7 +50,19 @@ pub fn record_text<C: Cost + Display>(heap: Global, entries: &[Entry<C>]) -> io:
         if !text.is_empty() {
             text.push_str("; ")?;
         }
-        write_answer(&mut text, &entry.answer)?;
+        let answer = AnswerText(&entry.answer);
+        write!(text, "{answer}")?;
     }
     Ok(text)
+}
+
+// What the calls answer, on so many cells with litter in them.
+pub fn told<M: DisplayMachine, C: Cost + Display>(
+    heap: Global,
+    machine: &M,
+    cells: usize,
+    calls: &[Call],
+) -> io::Result<String> {
+    let record: Vec<Entry<C>> = record_of(heap, machine, cells, calls)?;
+    record_text(heap, &record)
 }

@@ -1,12 +1,10 @@
 // Lines whose codes, preview and cost are known from outside.
-use crate::told::{record_of, record_text};
+use crate::told::told;
+use crate::wanted::{CLOSE, HAM, HAM_CELLS, OLIVE, RED_TARGET, TEAL};
 use cost::{Pair, Summed, Worst};
 use display::{Fill, HalfBrite, Ham, Target};
-use run::{Call, Entry};
+use run::Call;
 use std::test::Fail;
-
-// Column 0 and two more.
-const HAM_CELLS: usize = 3 * 4096;
 
 // Column 0 and three more.
 const FILL_CELLS: usize = 4 * 16;
@@ -16,34 +14,12 @@ const BLACK_RED_GREEN: Fill = Fill {
     entries: [0, 0xf00, 0x0f0, 0, 0, 0, 0, 0, 0, 0, 0, 0, 0, 0, 0, 0],
 };
 
-const OLIVE: Call = Call::Pixel {
-    target: Target {
-        red: 136,
-        green: 119,
-        blue: 0,
-    },
-};
-
-const TEAL: Call = Call::Pixel {
-    target: Target {
-        red: 0,
-        green: 119,
-        blue: 119,
-    },
-};
-
 const YELLOW: Call = Call::Pixel {
     target: Target {
         red: 255,
         green: 255,
         blue: 0,
     },
-};
-
-const RED_TARGET: Target = Target {
-    red: 255,
-    green: 0,
-    blue: 0,
 };
 
 const RED: Call = Call::Pixel { target: RED_TARGET };
@@ -56,19 +32,11 @@ const GREEN: Call = Call::Pixel {
     },
 };
 
-const CLOSE: Call = Call::Close {
-    codes: 3,
-    preview: 3,
-};
-
 #[test]
 fn ham_summed(rt: HostRuntime) -> Result<(), Fail> {
-    let ham = Ham { registers: [0; 16] };
     let calls = [Call::Start { width: 2 }, OLIVE, TEAL, CLOSE, Call::Report];
-    let record: Vec<Entry<Summed>> = record_of(rt.alloc(), &ham, HAM_CELLS, &calls)?;
-    let text = record_text(rt.alloc(), &record)?;
     assert_eq!(rt;
-        text.as_str(),
+        told::<Ham, Summed>(rt.alloc(), &HAM, HAM_CELLS, &calls)?.as_str(),
         "taken; taken; taken; codes 55 23 preview 070 077 cost 64; lines 1 total 64"
     );
     Ok(())
@@ -76,12 +44,9 @@ fn ham_summed(rt: HostRuntime) -> Result<(), Fail> {
 
 #[test]
 fn ham_worst(rt: HostRuntime) -> Result<(), Fail> {
-    let ham = Ham { registers: [0; 16] };
     let calls = [Call::Start { width: 2 }, OLIVE, TEAL, CLOSE, Call::Report];
-    let record: Vec<Entry<Worst>> = record_of(rt.alloc(), &ham, HAM_CELLS, &calls)?;
-    let text = record_text(rt.alloc(), &record)?;
     assert_eq!(rt;
-        text.as_str(),
+        told::<Ham, Worst>(rt.alloc(), &HAM, HAM_CELLS, &calls)?.as_str(),
         "taken; taken; taken; codes 55 52 preview 070 040 cost 64; lines 1 total 64"
     );
     Ok(())
@@ -90,13 +55,11 @@ fn ham_worst(rt: HostRuntime) -> Result<(), Fail> {
 // Register 1 would do as well at the first pixel; the lower state on the way to the last one is 0f0.
 #[test]
 fn ham_with_a_white_register(rt: HostRuntime) -> Result<(), Fail> {
-    let mut ham = Ham { registers: [0; 16] };
+    let mut ham = HAM;
     ham.registers[1] = 0xfff;
     let calls = [Call::Start { width: 2 }, YELLOW, YELLOW, CLOSE];
-    let record: Vec<Entry<Summed>> = record_of(rt.alloc(), &ham, HAM_CELLS, &calls)?;
-    let text = record_text(rt.alloc(), &record)?;
     assert_eq!(rt;
-        text.as_str(),
+        told::<Ham, Summed>(rt.alloc(), &ham, HAM_CELLS, &calls)?.as_str(),
         "taken; taken; taken; codes 63 47 preview 0f0 ff0 cost 225"
     );
     Ok(())
@@ -113,19 +76,18 @@ fn half_brite_summed(rt: HostRuntime) -> Result<(), Fail> {
         blue: 0x10,
     };
     let calls = [Call::Start { width: 1 }, Call::Pixel { target }, CLOSE];
-    let record: Vec<Entry<Summed>> = record_of(rt.alloc(), &half_brite, 128, &calls)?;
-    let text = record_text(rt.alloc(), &record)?;
-    assert_eq!(rt; text.as_str(), "taken; taken; codes 37 preview 751 cost 0");
+    assert_eq!(rt;
+        told::<HalfBrite, Summed>(rt.alloc(), &half_brite, 128, &calls)?.as_str(),
+        "taken; taken; codes 37 preview 751 cost 0"
+    );
     Ok(())
 }
 
 #[test]
 fn fill_summed(rt: HostRuntime) -> Result<(), Fail> {
     let calls = [Call::Start { width: 3 }, RED, RED, GREEN, CLOSE];
-    let record: Vec<Entry<Summed>> = record_of(rt.alloc(), &BLACK_RED_GREEN, FILL_CELLS, &calls)?;
-    let text = record_text(rt.alloc(), &record)?;
     assert_eq!(rt;
-        text.as_str(),
+        told::<Fill, Summed>(rt.alloc(), &BLACK_RED_GREEN, FILL_CELLS, &calls)?.as_str(),
         "taken; taken; taken; taken; codes 1 0 2 preview f00 f00 0f0 cost 0"
     );
     Ok(())
@@ -135,10 +97,8 @@ fn fill_summed(rt: HostRuntime) -> Result<(), Fail> {
 #[test]
 fn fill_pair(rt: HostRuntime) -> Result<(), Fail> {
     let calls = [Call::Start { width: 3 }, RED, RED, GREEN, CLOSE];
-    let record: Vec<Entry<Pair>> = record_of(rt.alloc(), &BLACK_RED_GREEN, FILL_CELLS, &calls)?;
-    let text = record_text(rt.alloc(), &record)?;
     assert_eq!(rt;
-        text.as_str(),
+        told::<Fill, Pair>(rt.alloc(), &BLACK_RED_GREEN, FILL_CELLS, &calls)?.as_str(),
         "taken; taken; taken; taken; codes 1 1 2 preview f00 f00 0f0 cost 0/0"
     );
     Ok(())
@@ -152,10 +112,8 @@ fn fill_pinned_to_nothing(rt: HostRuntime) -> Result<(), Fail> {
         code: 0,
     };
     let calls = [Call::Start { width: 3 }, repeat, RED, RED, GREEN, CLOSE];
-    let record: Vec<Entry<Summed>> = record_of(rt.alloc(), &BLACK_RED_GREEN, FILL_CELLS, &calls)?;
-    let text = record_text(rt.alloc(), &record)?;
     assert_eq!(rt;
-        text.as_str(),
+        told::<Fill, Summed>(rt.alloc(), &BLACK_RED_GREEN, FILL_CELLS, &calls)?.as_str(),
         "taken; fault 8 trellis pixel 0; taken; taken; taken; codes 1 0 2 preview f00 f00 0f0 cost 0"
     );
     Ok(())

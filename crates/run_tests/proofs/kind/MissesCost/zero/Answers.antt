@@ -1,6 +1,0 @@
-use Rattle.std.proofs.Common.{arith}
-use Rattle.run_tests.specs.Same.{same_misses}
-use Rattle.run_tests.proofs.kind.MissesCost.zero.Goals as goal
-
-pub returns : goal.returns
-returns c = same_misses (omega arith)
