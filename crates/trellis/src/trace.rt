@@ -80,7 +80,7 @@ impl<'a, M: DisplayMachine, C: Cost> Columns<'a, M, C> {
             .any(|(s, cell)| cell.reached && can_step(machine, s, pin))
     }
 
-    // The cheapest reached state of the last column, the lowest at a tie.
+    // Where the cheapest line ends: of equal costs the lower state goes first.
     pub(crate) fn pick(&self) -> Option<u16>
         ensures { result ≡ pick C.kind (column_at (M.meaning self.now.machine.now).states self.now.pixels self.now.cells.now) (M.meaning self.now.machine.now).states }
     {
