@@ -1,7 +1,7 @@
 -- Pins of three bytes each, as `as_chunks` takes them.
-use Rattle.std.proofs.Common.{◌≡◌, ℕ, zero, suc, ◌+◌, ◌/◌, ◌<◌, ◌≤◌, Bool, true, false, cond, ◌&&◌, List, [], ◌∷◌, map, length, get_or, IsSomeAnd, MatchOption, Some, None, Option, refl, sym, ap, ◌∙◌, arith, nat_eq, nat_lt, Bor}
-use Rattle.std.proofs.lemmas.Bool.{and_left, and_right, le-leb, lt-leb, ltb-true, ltb-false}
-use Rattle.std.specs.List.{AllAdjacentBelow, IsAllAdjacentAnswer, find, list_all}
+use Rattle.std.proofs.Common.{◌≡◌, ℕ, zero, suc, ◌+◌, ◌/◌, ◌<◌, ◌≤◌, Bool, true, false, cond, ◌&&◌, List, [], ◌∷◌, map, length, get_or, IsSomeAnd, MatchOption, Some, None, Option, refl, sym, ap, ◌∙◌, arith, nat_eq, nat_le, nat_lt, inl, inr, Bor}
+use Rattle.std.proofs.lemmas.Bool.{and_cases, and_left, and_parts, and_right, le-leb, lt-leb, lt-ltb, ltb-true, ltb-false}
+use Rattle.std.specs.List.{AllAdjacentBelow, IsAllAdjacentAnswer, find}
 use Rattle.std.specs.Option.{option_map}
 use Rattle.std.specs.Simd.{first_chunks}
 use Rattle.records.specs.Letters.{number_of_bytes}
@@ -24,44 +24,64 @@ pins_by_chunks (low ∷ high ∷ code ∷ bytes) =
     ap (λ ps. pin_by (low ∷ high ∷ code ∷ []) ∷ ps) (pins_by_chunks bytes)
     ∙ ap (λ n. map pin_by (first_chunks 3 n (low ∷ high ∷ code ∷ bytes))) more
 
--- whether one pin stands before another
-abbrev pub stands_before : List ℕ → List ℕ → Bool
-stands_before x y = nat_lt (place_by x) (place_by y)
+-- whether the first pin, if there is one, stands below the width
+abbrev pub starts_below : ℕ → List (List ℕ) → Bool
+starts_below width [] = true
+starts_below width (x ∷ pins) = nat_lt (place_by x) width
 
--- the same two pins, counted from the second pin on
-onward : (x : List ℕ) (pins : List (List ℕ)) (k : ℕ) (d : List ℕ) →
-    stands_before (get_or (x ∷ pins) (suc k) d) (get_or (x ∷ pins) (suc k + 1) d) ≡ stands_before (get_or pins k d) (get_or pins (k + 1) d)
-onward x pins k d = let next : suc k + 1 ≡ suc (k + 1) = omega arith in ap (λ i. stands_before (get_or pins k d) (get_or (x ∷ pins) i d)) next
+-- whether a pin stands above the one before it, and below the width
+abbrev pub stands_after : ℕ → List ℕ → List ℕ → Bool
+stands_after width x y = nat_lt (place_by x) (place_by y) && nat_lt (place_by y) width
 
 module _ (width : ℕ) where
-  -- places that rise are right where each is below the width
-  rising : (least : ℕ) (pins : List (List ℕ)) → AllAdjacentBelow (λ x y. true ≡ stands_before x y) pins (length pins) → least ≤ place_by (get_or pins 0 []) →
-      rising_from width least (map pin_by pins) ≡ list_all (λ pin. nat_lt (place_by pin) width) pins
+  -- the same two pins, counted from the second pin on
+  onward : (x : List ℕ) (pins : List (List ℕ)) (k : ℕ) (d : List ℕ) →
+      stands_after width (get_or (x ∷ pins) (suc k) d) (get_or (x ∷ pins) (suc k + 1) d) ≡ stands_after width (get_or pins k d) (get_or pins (k + 1) d)
+  onward x pins k d = let next : suc k + 1 ≡ suc (k + 1) = omega arith in ap (λ i. stands_after width (get_or pins k d) (get_or (x ∷ pins) i d)) next
+
+  -- places that rise below the width are right where the first is
+  rising : (least : ℕ) (pins : List (List ℕ)) → AllAdjacentBelow (λ x y. true ≡ stands_after width x y) pins (length pins) → least ≤ place_by (get_or pins 0 []) →
+      rising_from width least (map pin_by pins) ≡ starts_below width pins && true
   rising least [] rise h = refl
   rising least (x ∷ []) rise h = rw (le-leb least (place_by x) h)
   rising least (x ∷ y ∷ pins) rise h =
-      let less = ltb-true (place_by x) (place_by y) (sym (rise 0 [] (omega arith))) in
-      rw (le-leb least (place_by x) h, rising (place_by x + 1) (y ∷ pins) (λ k d l. rise (suc k) d (omega arith) ∙ onward x (y ∷ pins) k d) (omega (arith, less)))
+      let after = and_parts _ _ (sym (rise 0 [] (omega arith))) in
+      let less = ltb-true (place_by x) (place_by y) after.0 in
+      rw (le-leb least (place_by x) h, rising (place_by x + 1) (y ∷ pins) (λ k d l. rise (suc k) d (omega arith) ∙ onward x (y ∷ pins) k d) (omega (arith, less)), after.1)
 
-  -- a place that is not above the one before it is wrong
-  falling : (least : ℕ) (pins : List (List ℕ)) (k : ℕ) → k + 1 < length pins → ((d : List ℕ) → false ≡ stands_before (get_or pins k d) (get_or pins (k + 1) d)) →
+  -- a place that is not above the one before it, or not below the width, is wrong
+  not_after : (x y : List ℕ) → stands_after width x y ≡ false → nat_le (place_by x + 1) (place_by y) && nat_lt (place_by y) width ≡ false
+  not_after x y e = elim (and_cases (nat_lt (place_by x) (place_by y)) (nat_lt (place_by y) width) e) [
+    | inl above ↦ and_left _ _ (lt-leb (place_by x + 1) (place_by y) (omega (arith, ltb-false (place_by x) (place_by y) above)))
+    | inr below ↦ and_right _ _ below
+  ]
+
+  falling : (least : ℕ) (pins : List (List ℕ)) (k : ℕ) → k + 1 < length pins → ((d : List ℕ) → false ≡ stands_after width (get_or pins k d) (get_or pins (k + 1) d)) →
       rising_from width least (map pin_by pins) ≡ false
   falling least [] k h e = absurd (omega arith)
   falling least (x ∷ []) k h e = absurd (omega arith)
-  falling least (x ∷ y ∷ pins) zero h e =
-      let not = ltb-false (place_by x) (place_by y) (sym (e [])) in
-      and_right _ _ (and_left _ _ (and_left _ _ (lt-leb (place_by x + 1) (place_by y) (omega (arith, not)))))
+  falling least (x ∷ y ∷ pins) zero h e = and_right _ _ (and_left _ _ (not_after x y (sym (e []))))
   falling least (x ∷ y ∷ pins) (suc k) h e = and_right _ _ (falling (place_by x + 1) (y ∷ pins) k (omega arith) (λ d. e d ∙ onward x (y ∷ pins) k d))
 
-  sorted_or_not : (pins : List (List ℕ)) (sorted : Bool) → IsAllAdjacentAnswer (λ x y b. b ≡ stands_before x y) pins sorted →
-      rising_from width 0 (map pin_by pins) ≡ sorted && list_all (λ pin. nat_lt (place_by pin) width) pins
+  sorted_or_not : (pins : List (List ℕ)) (sorted : Bool) → IsAllAdjacentAnswer (λ x y b. b ≡ stands_after width x y) pins sorted →
+      rising_from width 0 (map pin_by pins) ≡ starts_below width pins && sorted
   sorted_or_not pins true rise = rising 0 pins rise (omega arith)
-  sorted_or_not pins false (k, h, e) = falling 0 pins k h e
+  sorted_or_not pins false (k, h, e) = falling 0 pins k h e ∙ sym (and_right (starts_below width pins) false refl)
 
   pub pins_sorted : (bytes : List ℕ) (chunks : List (List ℕ)) (sorted : Bool) → chunks ≡ first_chunks 3 (length bytes / 3) bytes →
-      IsAllAdjacentAnswer (λ x y b. b ≡ stands_before x y) chunks sorted → pins_right width bytes ≡ sorted && list_all (λ pin. nat_lt (place_by pin) width) chunks
+      IsAllAdjacentAnswer (λ x y b. b ≡ stands_after width x y) chunks sorted → pins_right width bytes ≡ starts_below width chunks && sorted
   pins_sorted bytes chunks sorted are rise =
       ap (rising_from width 0) (pins_by_chunks bytes ∙ ap (map pin_by) (sym are)) ∙ sorted_or_not chunks sorted rise
+
+  -- the same where there is a first pin, and it stands below the width
+  pub pins_rise : (bytes : List ℕ) (chunks : List (List ℕ)) (sorted : Bool) → chunks ≡ first_chunks 3 (length bytes / 3) bytes →
+      IsAllAdjacentAnswer (λ x y b. b ≡ stands_after width x y) chunks sorted → 1 ≤ length chunks → place_by (get_or chunks 0 []) < width → sorted ≡ pins_right width bytes
+  pins_rise bytes chunks sorted are rise some first =
+      sym (pins_sorted bytes chunks sorted are rise ∙ ap (λ b. b && sorted) (starts chunks some first))
+    where
+      starts : (pins : List (List ℕ)) → 1 ≤ length pins → place_by (get_or pins 0 []) < width → starts_below width pins ≡ true
+      starts [] h below = absurd (omega arith)
+      starts (x ∷ pins) h below = lt-ltb (place_by x) width below
 
 -- the code of the first pin at a place
 pin_found : (place : ℕ) (chunks : List (List ℕ)) →

@@ -15,8 +15,14 @@ pub fn pins_are_right(width: u16, pins: &[u8]) -> bool
     ensures { result ≡ pins_right width pins.now }
 {
     let (whole, _) = pins.as_chunks::<3>();
-    whole.is_sorted_by(|before, pin| place_of(before) < place_of(pin))
-        && whole.iter().all(|pin| place_of(pin) < width)
+    let [first, ..] = whole else {
+        return true;
+    };
+    // Each is held to the width as it is met: of places that rise past the width the first is the last one looked at.
+    place_of(first) < width
+        && whole.is_sorted_by(|before, pin| {
+            place_of(before) < place_of(pin) && place_of(pin) < width
+        })
 }
 
 // The code that a place is pinned to.
