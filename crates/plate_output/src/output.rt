@@ -2,7 +2,7 @@
 use crate::bounds::Bounds;
 use anyhow::anyhow;
 use cost::Cost;
-use platefile::{FileError, Lines, Opened, Piece, next_text, open_file};
+use platefile::{FaultLine, FileError, Lines, Opened, Piece, next_text, open_file};
 use std::fmt::Display;
 
 fn no_memory() -> anyhow::Error {
@@ -39,7 +39,7 @@ pub fn print_file<R: Print + AllocGlobal>(
         Ok(Opened::Worst(lines)) => print_lines(rt, lines),
         Ok(Opened::Pair(lines)) => print_lines(rt, lines),
         Err(FileError::Fault(fault)) => {
-            println!(rt; "{fault}")?;
+            print!(rt; "{}", FaultLine(fault))?;
             Ok(())
         }
         Err(FileError::NoMemory(_)) => Err(no_memory()),

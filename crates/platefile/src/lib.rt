@@ -17,4 +17,4 @@ pub use records::{
     AnyDisplay, CostKind, FileFault, Heading, LineFault, MachineKind, Mark, PlateFault, Record,
     Stage, read_heading,
 };
-pub use text::{fault_text, line_text, total_text};
+pub use text::{FaultLine, fault_text, line_text, total_text};

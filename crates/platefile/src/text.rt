@@ -6,7 +6,7 @@ use cost::Cost;
 use lines::{Codes, Preview};
 use records::FileFault;
 use std::alloc::{AllocError, Global};
-use std::fmt::Display;
+use std::fmt::{self, Display};
 
 // A line that was drawn: its number, its cost and its codes, and on the next line its preview.
 // Parts of a line and no DrawnLine, which would ask a caller for vectors where slices do.
@@ -35,9 +35,20 @@ pub fn total_text<C: Cost + Display>(
     format!(in heap; "lines {lines} total {total}\n")
 }
 
-// The fault that ends a file.
+// The fault that ends a file, as the line that is printed.
+#[derive(Clone, Copy, Debug, PartialEq, Eq)]
+pub struct FaultLine(pub FileFault);
+
+impl Display for FaultLine {
+    ghost output = { λ line. Some (fault_bytes line.0) };
+
+    fn fmt<W: fmt::Write>(&self, f: &mut fmt::Formatter<W>) -> fmt::Result {
+        write!(f, "{}\n", self.0)
+    }
+}
+
 pub fn fault_text(heap: Global, fault: FileFault) -> Result<String, AllocError>
     ensures { IfOk result (λ text. string_bytes text ≡ fault_bytes fault) }
 {
-    format!(in heap; "{fault}\n")
+    format!(in heap; "{}", FaultLine(fault))
 }
