@@ -43,6 +43,16 @@ Cheapest m bytes (Ok found) = Found m bytes found
 Cheapest m bytes (Err (Refused fault)) = cheapest m bytes ≡ Err fault
 Cheapest m bytes (Err (NoMemory lack)) = Unit {0}
 
+-- a refusal, or else what comes later
+abbrev pub refused_or : Result (Answer Summed) Fault → Option Fault → Option Fault
+refused_or (Ok _) later = later
+refused_or (Err fault) later = Some fault
+
+-- the first refusal in a record
+abbrev pub first_refusal : List (Entry Summed) → Option Fault
+first_refusal [] = None
+first_refusal (entry ∷ entries) = refused_or entry.answer (first_refusal entries)
+
 -- the line of a close, with what a report after it says; none where the one was no taken close or the other no report
 abbrev pub line_of : Result (Answer Summed) Fault → Result (Answer Summed) Fault → Option FoundLine
 line_of (Ok (Closed line preview cost)) (Ok (Reported lines total)) =

@@ -9,8 +9,11 @@ use std::test::Fail;
 fn calls_come_to_the_line_that_is_printed(rt: HostRuntime) -> Result<(), Fail> {
     let ham = Ham { registers: [0; 16] };
     let record = line_record(rt.alloc(), &ham, &WANTED)?;
-    let Some(called) = read_record(record) else {
+    let Ok(read) = read_record(record) else {
         return Err(Fail::new("a call is refused"));
+    };
+    let Some(called) = read else {
+        return Err(Fail::new("no line is closed and reported"));
     };
     let printed = match cheapest_line(rt.alloc(), &ham, &WANTED) {
         Ok(found) => found,

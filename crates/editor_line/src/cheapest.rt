@@ -2,8 +2,9 @@
 ghost use Rattle.std.specs.Prelude.{◌≡◌, ◌+◌, ◌*◌, ◌/◌, ◌≤◌, length, IfOk};
 ghost use Rattle.cost.specs.Kinds.{summed};
 ghost use Rattle.lines.specs.Lines.{targets_of};
+ghost use Rattle.lines.specs.Checks.{answer};
 ghost use Rattle.run.specs.Promise.{Promise};
-ghost use Rattle.editor_line.specs.Cheapest.{Cheapest, line_calls, line_read};
+ghost use Rattle.editor_line.specs.Cheapest.{Cheapest, first_refusal, line_calls, line_read};
 
 use cost::Summed;
 use display::{DisplayMachine, Target};
@@ -59,8 +60,20 @@ pub fn line_record<M: DisplayMachine>(
     run(heap, machine, &mut cells, &calls)
 }
 
+// The first refusal in a record.
+fn first_refusal(entries: &[Entry<Summed>]) -> Option<Fault>
+    ensures { result ≡ first_refusal entries.now }
+{
+    for entry in entries {
+        if let Err(fault) = entry.answer {
+            return Some(fault);
+        }
+    }
+    None
+}
+
 // The line that the last two calls of a record closed and reported, if they did.
-pub fn read_record(mut entries: Vec<Entry<Summed>>) -> Option<FoundLine>
+fn last_line(mut entries: Vec<Entry<Summed>>) -> Option<FoundLine>
     ensures { result ≡ line_read entries.items }
 {
     let Ok(Answer::Reported { lines, total }) = entries.pop()?.answer else {
@@ -84,6 +97,16 @@ pub fn read_record(mut entries: Vec<Entry<Summed>>) -> Option<FoundLine>
             report: Report { lines, total },
         },
     })
+}
+
+// The line of a record, if its last two calls closed and reported one; or the first refusal in it.
+pub fn read_record(entries: Vec<Entry<Summed>>) -> Result<Option<FoundLine>, Fault>
+    ensures { result ≡ answer (first_refusal entries.items) (line_read entries.items) }
+{
+    match first_refusal(&entries) {
+        Some(fault) => Err(fault),
+        None => Ok(last_line(entries)),
+    }
 }
 
 // The cheapest line of these targets, or why there is none.
