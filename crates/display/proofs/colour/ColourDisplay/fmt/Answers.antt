@@ -1,4 +1,4 @@
-use Rattle.std.proofs.Common.{◌≡◌, ℕ, ◌-◌, ◌^◌, ◌/◌, ◌%◌, ◌<◌, ◌≤◌, false, [], ◌∷◌, refl, subst, arith, inl, inr}
+use Rattle.std.proofs.Common.{◌≡◌, ℕ, ◌-◌, ◌^◌, ◌/◌, ◌%◌, ◌<◌, ◌≤◌, false, [], ◌∷◌, refl, sym, subst, arith, inl, inr}
 use Rattle.std.specs.Fmt.{HasWritten, char_count, digit_glyph, digits, format_spec, padded_integral}
 use Rattle.std.proofs.lemmas.Bool.{cases_lt, eq-eqb, ne_eqb}
 use Rattle.std.proofs.lemmas.Fmt.{hex_one_digit, hex_two_digits}
@@ -26,8 +26,13 @@ three_digits n h =
       ]
     ]
 
+-- the same of a number that is a colour's
+three_digits_of : (n colour : ℕ) → n ≡ colour → colour < 4096 →
+    padded_integral (format_spec 32 0 4 3 (2 ^ 64 - 1)) false [] (digits 16 false n) ≡ digit_of (red_of colour) ∷ digit_of (green_of colour) ∷ digit_of (blue_of colour) ∷ []
+three_digits_of n colour e h = subst (λ m. padded_integral (format_spec 32 0 4 3 (2 ^ 64 - 1)) false [] (digits 16 false m) ≡ digit_of (red_of colour) ∷ digit_of (green_of colour) ∷ digit_of (blue_of colour) ∷ []) (sym e) (three_digits colour h)
+
 pub returns-clause-writes : goal.returns-clause-writes
 returns-clause-writes g c p o =
     subst (λ text. HasWritten g.W.Write.write_str_gives c.args.f.now text c.write.new.self)
-    (three_digits (c.args.self.now.0 % 4096) (omega arith))
+    (three_digits_of _ (c.args.self.now.0 % 4096) (omega arith) (omega arith))
     ((rw (c.laid_out.ensures, c.in_radix.ensures) at c.write.ensures.writes) p o)
