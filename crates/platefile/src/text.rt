@@ -47,6 +47,7 @@ impl Display for FaultLine {
     }
 }
 
+// The same line as a text.
 pub fn fault_text(heap: Global, fault: FileFault) -> Result<String, AllocError>
     ensures { IfOk result (λ text. string_bytes text ≡ fault_bytes fault) }
 {
